@@ -1,0 +1,5 @@
+pub mod Bottoms
+pub mod Radices
+pub mod Rows
+pub mod Searches
+pub mod Soundness

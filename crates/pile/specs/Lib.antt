@@ -1,0 +1,7 @@
+pub mod Answers
+pub mod Bottoms
+pub mod Layers
+pub mod Meaning
+pub mod Opening
+pub mod Row
+pub mod Rules

@@ -1,0 +1,9 @@
+// Piles: a bounded sample on numbered places, kept while tags come and go.
+
+pub mod entries_only;
+pub mod faults;
+pub mod opening;
+pub mod paired;
+pub mod pile;
+mod places;
+pub mod receipts;
