@@ -1,4 +1,5 @@
 pub mod Bottoms
+pub mod Fronts
 pub mod Radices
 pub mod Rows
 pub mod Searches

@@ -94,12 +94,12 @@ joined-sound m t r s z room le =
       few-places = s .few-places;
       classes = s .classes;
       as-many-places =
-        let e : length (m .places) ≡ min (m .bound) (m .live) = omega (arith, s .as-many-places) in
-        omega (arith, drawn-length _ _ _ (m .places) (m .bound) (m .live) t r refl refl refl le e);
+          let e : length (m .places) ≡ min (m .bound) (m .live) = omega (arith, s .as-many-places) in
+          omega (arith, drawn-length _ _ _ (m .places) (m .bound) (m .live) t r refl refl refl le e);
       few-holes =
-        let e : length (m .places) ≡ min (m .bound) (m .live) = omega (arith, s .as-many-places) in
-        let h : holes (m .places) ≡ 0 = omega (arith, s .few-holes) in
-        omega (arith, drawn-holes _ _ _ (m .places) (m .bound) (m .live) t r refl refl refl e h);
+          let e : length (m .places) ≡ min (m .bound) (m .live) = omega (arith, s .as-many-places) in
+          let h : holes (m .places) ≡ 0 = omega (arith, s .few-holes) in
+          omega (arith, drawn-holes _ _ _ (m .places) (m .bound) (m .live) t r refl refl refl e h);
       few-keys = omega arith;
     }
 
@@ -114,8 +114,8 @@ paired-sound m t r s l =
       few-places = s .few-places;
       classes = s .classes;
       as-many-places =
-        let e : m .live + 1 + (m .unpaired - 1) ≡ m .live + m .unpaired = omega arith in
-        length-put (m .places) (hole-place (m .places) r) (Some t) ∙ s .as-many-places ∙ ap (min (m .bound)) (sym e);
+          let e : m .live + 1 + (m .unpaired - 1) ≡ m .live + m .unpaired = omega arith in
+          length-put (m .places) (hole-place (m .places) r) (Some t) ∙ s .as-many-places ∙ ap (min (m .bound)) (sym e);
       few-holes = filled-holes (m .places) (m .unpaired) r t (hole-place (m .places) r) (holes-filled (m .places) r t) (s .few-holes) l;
       few-keys = omega (arith, s .few-keys);
     }
@@ -131,8 +131,8 @@ vacated-sound m t s l =
       few-places = s .few-places;
       classes = s .classes;
       as-many-places =
-        let e : m .live - 1 + (m .unpaired + 1) ≡ m .live + m .unpaired = omega arith in
-        length-put (m .places) (tag-place (m .places) t) None ∙ s .as-many-places ∙ ap (min (m .bound)) (sym e);
+          let e : m .live - 1 + (m .unpaired + 1) ≡ m .live + m .unpaired = omega arith in
+          length-put (m .places) (tag-place (m .places) t) None ∙ s .as-many-places ∙ ap (min (m .bound)) (sym e);
       few-holes = vacated-holes (m .places) (m .unpaired) (tag-place (m .places) t) (s .few-holes);
       few-keys = omega (arith, s .few-keys);
     }

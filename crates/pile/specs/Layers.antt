@@ -1,8 +1,10 @@
 -- What a layer means, over the meaning of the pile below it.
 use Prim.Native.Nat.{ℕ, _/_, _%_, _^_, min}
-use mathlib.Core.Bool.{Bool, _&&_}
+use mathlib.Core.Bool.{Bool, true, false, _&&_}
 use lib.Dec.{eqb, ltb}
 use lib.ListN.{take}
+use Rattle.std.specs.declared.option.Option.{Option}
+use Rattle.std.specs.declared.option.Option.the-variants.{Some, None}
 use Rattle.pile.specs.Meaning.{Meaning}
 
 -- bit c of the set stands for class c, 0 to 7
@@ -32,3 +34,12 @@ fronted size m =
       unpaired = m .unpaired;
       places = take size (m .places);
     }
+
+-- a place below, as the front shows it: none past its size
+abbrev pub shown-when : Bool → ℕ → Option ℕ
+shown-when true i = Some i
+shown-when false i = None
+
+abbrev pub shown-place : (size : ℕ) → Option ℕ → Option ℕ
+shown-place size None = None
+shown-place size (Some i) = shown-when (ltb i size) i
