@@ -115,6 +115,7 @@ module _ (s m n t r : ℕ) (ps : List Place) (le : r ≤ n) (len : length ps ≡
     where
       h : n < m
       h = ltb-true n m g
+
       by : (n < s) ⊎ (s ≤ n) → take s (set ps r (Some t) ++ getD ps r None ∷ []) ≡ drawn-places true true (ltb n (min s m)) (take s ps) t r
       by (inl l) =
           take-all s (set ps r (Some t) ++ getD ps r None ∷ []) (omega (arith, h, length-append (set ps r (Some t)) (getD ps r None ∷ []), length-set ps r (Some t)))
@@ -138,6 +139,7 @@ module _ (s m n t r : ℕ) (ps : List Place) (le : r ≤ n) (len : length ps ≡
     where
       h : r < m
       h = ltb-true r m e
+
       by : (r < s) ⊎ (s ≤ r) → Goal true b c
       by (inl l) = within b c e f g l ∙ ap (λ x. drawn-places x b (ltb n (min s m)) (take s ps) t r) (sym (lt-ltb r (min s m) (omega (arith, h))))
       by (inr l) = past b c e f g l ∙ ap (λ x. drawn-places x b (ltb n (min s m)) (take s ps) t r) (sym (le-ltb r (min s m) (omega arith)))
@@ -178,16 +180,16 @@ module _ (s : ℕ) (m : Meaning) (sound : Sound m) where
       record {
         answers = ap (λ o. told (receipt n r o)) (drawn-place-front s (m .bound) r (ltb r (m .bound)) refl);
         afters =
-          ap (with-places s m (m .live + 1) (m .unpaired))
-          (drawn-front s (m .bound) (m .live) t r (m .places) le len _ _ _ refl refl refl);
+            ap (with-places s m (m .live + 1) (m .unpaired))
+            (drawn-front s (m .bound) (m .live) t r (m .places) le len _ _ _ refl refl refl);
       }
   counted-front false n t r e radix l =
       let place = hole-front s (m .places) r in
       record {
         answers = ap (λ o. told (receipt n r o)) place;
         afters =
-          ap (with-places s m (m .live + 1) (m .unpaired - 1))
-          (put-front s (m .places) (hole-place (m .places) r) (Some t) ∙ ap (λ o. put (take s (m .places)) o (Some t)) place);
+            ap (with-places s m (m .live + 1) (m .unpaired - 1))
+            (put-front s (m .places) (hole-place (m .places) r) (Some t) ∙ ap (λ o. put (take s (m .places)) o (Some t)) place);
       }
 
   drawn-entry-front : (b k : Bool) (n t r : ℕ) → ltb r n ≡ b → (k ≡ true → m .unpaired ≡ 0 → n ≡ m .live + 1) → Commutes (shown-entry s) s (entry-drawn b k m n t r) (entry-drawn b k (fronted s m) n t r)
@@ -213,8 +215,8 @@ module _ (s : ℕ) (m : Meaning) (sound : Sound m) where
       record {
         answers = ap (λ o. told (record { place = o })) place;
         afters =
-          ap (with-places s m (m .live - 1) (m .unpaired + 1))
-          (put-front s (m .places) (tag-place (m .places) t) None ∙ ap (λ o. put (take s (m .places)) o None) place);
+            ap (with-places s m (m .live - 1) (m .unpaired + 1))
+            (put-front s (m .places) (tag-place (m .places) t) None ∙ ap (λ o. put (take s (m .places)) o None) place);
       }
 
   pub leave-front : (t c : ℕ) → Commutes (shown-leave s) s (leave-rule m t c) (leave-rule (fronted s m) t c)

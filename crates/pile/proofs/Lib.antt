@@ -1,4 +1,5 @@
 pub mod Bottoms
+pub mod Changes
 pub mod Fronts
 pub mod Radices
 pub mod Rows

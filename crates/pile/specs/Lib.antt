@@ -1,5 +1,6 @@
 pub mod Answers
 pub mod Bottoms
+pub mod Laws
 pub mod Layers
 pub mod Meaning
 pub mod Opening

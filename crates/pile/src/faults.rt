@@ -1,9 +1,12 @@
 // Why a pile, or an opening, refuses. specs/Answers.antt gives each fault its number.
+ghost use mathlib.Core.Path.{_≡_};
+ghost use Rattle.pile.specs.Answers.{pile-fault-number, opening-fault-number};
+use std::fmt;
 
 // Why a change of a pile is refused.
 #[derive(Clone, Copy, PartialEq, Eq, Debug)]
 pub enum PileFault {
-    // 1,024 counted keys are live and no leave waits to be made up for
+    // 1,024 counted keys are live and no leave is unpaired
     Full,
     // the draw is not below the radix
     DrawTooLarge,
@@ -22,4 +25,54 @@ pub enum OpeningFault {
     ClassSet,
     // the front is not 1 to 64
     FrontSize,
+}
+
+impl PileFault {
+    pub fn number(self) -> u8
+        ensures { λ r. ⌜ r ≡ pile-fault-number self ⌝ }
+    {
+        match self {
+            PileFault::Full => 10,
+            PileFault::DrawTooLarge => 12,
+            PileFault::TakesNoLeaves => 14,
+            PileFault::NoneLive => 15,
+        }
+    }
+}
+
+impl OpeningFault {
+    pub fn number(self) -> u8
+        ensures { λ r. ⌜ r ≡ opening-fault-number self ⌝ }
+    {
+        match self {
+            OpeningFault::Bound => 2,
+            OpeningFault::ClassSet => 3,
+            OpeningFault::FrontSize => 4,
+        }
+    }
+}
+
+pub impl fmt::Display for PileFault as PileFaultDisplay {
+    fn fmt<W: fmt::Write>(&self, f: &mut fmt::Formatter<W>) -> fmt::Result {
+        let words = match self {
+            PileFault::Full => "1024 counted keys are live, and no leave is unpaired",
+            PileFault::DrawTooLarge => "the draw is not below the radix",
+            PileFault::TakesNoLeaves => "the pile takes no leaves",
+            PileFault::NoneLive => "no counted key is live",
+        };
+        let number = self.number();
+        write!(f, "{number}: {words}")
+    }
+}
+
+pub impl fmt::Display for OpeningFault as OpeningFaultDisplay {
+    fn fmt<W: fmt::Write>(&self, f: &mut fmt::Formatter<W>) -> fmt::Result {
+        let words = match self {
+            OpeningFault::Bound => "the bound is not 1 to 64",
+            OpeningFault::ClassSet => "the class set is empty",
+            OpeningFault::FrontSize => "the front is not 1 to 64",
+        };
+        let number = self.number();
+        write!(f, "{number}: {words}")
+    }
 }

@@ -13,8 +13,8 @@ returns g c =
     let front = entry-front s (g .P·Pile .meaning p) (g .P·Pile·met .sound p) (c .args .tag) (c .args .class) (c .args .draw) in
     record {
       answer =
-        ap (λ o. told (receipt (came .below .radix) (came .below .draw) o)) (c .shown .ensures)
-        ∙ ap (shown-entry s) (came .ensures tt .answer)
-        ∙ front .answers;
+          ap (λ o. told (receipt (came .below .radix) (came .below .draw) o)) (c .shown .ensures)
+          ∙ ap (shown-entry s) (came .ensures tt .answer)
+          ∙ front .answers;
       after = ap (fronted s) (c .entry .ensures .after) ∙ front .afters;
     }

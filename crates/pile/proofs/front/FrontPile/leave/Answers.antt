@@ -18,6 +18,6 @@ returns g c =
     let front = leave-front s (g .P·Pile .meaning p) (g .P·Pile·met .sound p) (c .args .tag) (c .args .class) in
     record {
       answer =
-        ap left (c .shown .ensures) ∙ ap (shown-leave s) (c .in-Continue-below .ensures tt .answer) ∙ front .answers;
+          ap left (c .shown .ensures) ∙ ap (shown-leave s) (c .in-Continue-below .ensures tt .answer) ∙ front .answers;
       after = ap (fronted s) (c .leave .ensures .after) ∙ front .afters;
     }

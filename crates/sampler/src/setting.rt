@@ -1,0 +1,46 @@
+// The setting of a sample, and its opening.
+use pile::ClassFilter;
+use pile::ClassFilterPile;
+use pile::Front;
+use pile::OpeningFault;
+use pile::Paired;
+use pile::PairedPile;
+use pile::ask_bound;
+use pile::ask_classes;
+use pile::ask_front;
+
+pub type Sample = Front<ClassFilter<Paired>>;
+
+#[derive(Clone, Copy)]
+pub struct Setting {
+    pub bound: u8,
+    // bit c for class c
+    pub classes: u8,
+    pub front: u8,
+}
+
+impl Setting {
+    // Sixteen places, since a station usually drives sixteen trains; all classes; a front that hides nothing.
+    pub fn usual() -> Setting {
+        Setting {
+            bound: 16,
+            classes: 255,
+            front: 64,
+        }
+    }
+
+    pub fn ask(&self) -> Result<(), OpeningFault> {
+        ask_bound(self.bound)?;
+        ask_classes(self.classes)?;
+        ask_front(self.front)?;
+        Ok(())
+    }
+
+    // What does not pass counts as 1, or as no class.
+    pub fn open(&self) -> Sample {
+        Front::new(
+            self.front,
+            ClassFilter::new(self.classes, Paired::new(self.bound)),
+        )
+    }
+}
