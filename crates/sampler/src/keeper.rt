@@ -2,10 +2,10 @@
 use crate::line::Line;
 use crate::setting::Sample;
 use crate::setting::Setting;
-use pile::ClassFilterPile;
-use pile::FrontPile;
+use bottoms::PairedPile;
+use layers::ClassFilterPile;
+use layers::FrontPile;
 use pile::OpeningFaultDisplay;
-use pile::PairedPile;
 use pile::Pile;
 use pile::PileFaultDisplay;
 use pile::PlaceState;

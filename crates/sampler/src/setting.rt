@@ -1,10 +1,10 @@
 // The setting of a sample, and its opening.
-use pile::ClassFilter;
-use pile::ClassFilterPile;
-use pile::Front;
+use bottoms::Paired;
+use bottoms::PairedPile;
+use layers::ClassFilter;
+use layers::ClassFilterPile;
+use layers::Front;
 use pile::OpeningFault;
-use pile::Paired;
-use pile::PairedPile;
 use pile::ask_bound;
 use pile::ask_classes;
 use pile::ask_front;

@@ -1,0 +1,3 @@
+pub mod Bottoms
+pub mod Rows
+pub mod Searches

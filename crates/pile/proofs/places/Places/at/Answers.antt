@@ -1,6 +1,0 @@
-use mathlib.Core.Path.{sym}
-use lib.Seq.{getD-take}
-use Rattle.pile.proofs.places.Places.at.Needs as need
-
-pub returns : need.returns
-returns c = sym (getD-take _ _ _ _ (c .pre))
