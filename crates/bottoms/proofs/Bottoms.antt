@@ -3,11 +3,12 @@ use mathlib.Core.Path.{_≡_, refl, sym, ap, _∙_, subst}
 use Prim.Native.Nat.{ℕ, _+_, _<_, _≤_, min}
 use native.Mathlib.Omega.{arith}
 use mathlib.Core.Bool.{Bool, true, false}
+use mathlib.Core.List.{[]}
 use lib.Dec.{leb}
 use lib.ListN.{length}
 use Rattle.std.proofs.shelf.Tests.{ltb-true, leb-true, and-parts}
-use Rattle.bottoms.specs.Bottoms.{paired-meaning, entries-only-meaning, opened}
-use Rattle.pile.specs.Opening.{one-to-64, or-one}
+use Rattle.bottoms.specs.Bottoms.{bottom, paired-meaning, entries-only-meaning, opened}
+use Rattle.pile.specs.Opening.{one-to-64, or-one, taken-size}
 use Rattle.pile.specs.Meaning.{Meaning, Sound, holes}
 use Rattle.bottoms.specs.Row.{row}
 use Rattle.bottoms.specs.declared.paired.Paired.{Paired}
@@ -73,3 +74,13 @@ opened-sound leaves bound =
       few-holes = omega arith;
       few-keys = omega arith;
     }
+
+-- and so are the bottoms, whatever bound was asked for
+pub new-paired-facts : (p : Places) (b bound : ℕ) → b ≡ taken-size bound → row p ≡ [] → PairedFacts p (bottom true b 0 0 [])
+new-paired-facts p b bound e none =
+    subst (λ (k : ℕ). PairedFacts p (bottom true k 0 0 [])) (sym e) (paired-facts p (opened true bound) none (opened-sound true bound))
+
+pub new-entries-facts : (p : Places) (b bound : ℕ) → b ≡ taken-size bound → row p ≡ [] → EntriesFacts p (bottom false b 0 0 [])
+new-entries-facts p b bound e none =
+    subst (λ (k : ℕ). EntriesFacts p (bottom false k 0 0 [])) (sym e)
+    (entries-facts p (opened false bound) none refl (opened-sound false bound))

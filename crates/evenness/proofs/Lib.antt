@@ -1,0 +1,10 @@
+pub mod Arrangements
+pub mod Bridge
+pub mod Choose
+pub mod Deals
+pub mod Laws
+pub mod Picks
+pub mod Samples
+pub mod Tags
+pub mod Totals
+pub mod Uniform

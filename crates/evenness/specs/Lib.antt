@@ -1,0 +1,5 @@
+pub mod Counting
+pub mod Events
+pub mod Example
+pub mod Laws
+pub mod Tapes
