@@ -1,16 +1,24 @@
 // Keeps the sample, and says what was done.
 use crate::line::Line;
+use crate::line::LineFault;
+use crate::line::Who;
 use crate::setting::Sample;
 use crate::setting::Setting;
 use bottoms::PairedPile;
+use keys::KeyFaultDisplay;
+use keys::NameDisplay;
+use keys::NumberDisplay;
 use layers::ClassFilterPile;
 use layers::FrontPile;
+use pile::EntryReceipt;
 use pile::OpeningFaultDisplay;
 use pile::Pile;
 use pile::PileFaultDisplay;
 use pile::PlaceState;
 use pile::Tag;
-use std::io;
+use sources::write_record;
+use std::alloc::Global;
+use std::error::AnyError;
 
 #[derive(Drop)]
 pub struct Keeper {
@@ -18,59 +26,56 @@ pub struct Keeper {
     sample: Sample,
     // a setting comes before the first change or reading
     begun: bool,
+    // what the entries so far answered, for their tape
+    receipts: Vec<EntryReceipt>,
 }
 
 impl Keeper {
-    pub fn new() -> Keeper {
+    pub fn new(heap: Global) -> Keeper {
         let setting = Setting::usual();
         Keeper {
             setting,
             sample: setting.open(),
             begun: false,
+            receipts: Vec::new(heap),
         }
+    }
+
+    pub fn setting(&self) -> Setting {
+        self.setting
     }
 
     // Does what line `number` of the script asks.
-    pub fn follow(&mut self, rt: &impl Print, number: usize, line: Option<Line>) -> io::Result<()> {
+    pub fn follow(
+        &mut self,
+        rt: &impl Print,
+        number: usize,
+        line: Result<Line, LineFault>,
+    ) -> Result<(), AnyError> {
+        let old = self.setting;
         match line {
-            None => println!(rt, "line {number}: cannot be read"),
-            Some(Line::Blank) => Ok(()),
-            Some(Line::Bound(bound)) => self.set(
-                rt,
-                number,
-                Setting {
-                    bound,
-                    ..self.setting
-                },
-            ),
-            Some(Line::Classes(classes)) => self.set(
-                rt,
-                number,
-                Setting {
-                    classes,
-                    ..self.setting
-                },
-            ),
-            Some(Line::Front(front)) => self.set(
-                rt,
-                number,
-                Setting {
-                    front,
-                    ..self.setting
-                },
-            ),
-            Some(Line::Enter { tag, class, draw }) => self.enter(rt, tag, class, draw),
-            Some(Line::Leave { tag, class }) => self.leave(rt, tag, class),
-            Some(Line::Read) => self.read(rt),
+            Err(LineFault::Unreadable) => println!(rt, "line {number}: cannot be read")?,
+            Err(LineFault::Key(fault)) => println!(rt, "line {number}: refused {fault}")?,
+            Ok(Line::Blank) => {}
+            Ok(Line::Bound(bound)) => self.set(rt, number, Setting { bound, ..old })?,
+            Ok(Line::Classes(classes)) => self.set(rt, number, Setting { classes, ..old })?,
+            Ok(Line::Front(front)) => self.set(rt, number, Setting { front, ..old })?,
+            Ok(Line::Kind(kind)) => self.set(rt, number, Setting { kind, ..old })?,
+            Ok(Line::Enter { tag, who, draw }) => self.enter(rt, tag, who, draw)?,
+            Ok(Line::Leave { tag, who }) => self.leave(rt, tag, who)?,
+            Ok(Line::Read) => self.read(rt)?,
+            Ok(Line::Tape) => self.tape(rt)?,
         }
+        Ok(())
     }
 
-    fn set(&mut self, rt: &impl Print, number: usize, setting: Setting) -> io::Result<()> {
+    fn set(&mut self, rt: &impl Print, number: usize, setting: Setting) -> Result<(), AnyError> {
         if self.begun {
-            return println!(
+            println!(
                 rt,
                 "line {number}: a setting comes before the first change or reading"
-            );
+            )?;
+            return Ok(());
         }
         if let Err(fault) = setting.ask() {
             println!(rt, "line {number}: refused {fault}")?;
@@ -80,7 +85,7 @@ impl Keeper {
     }
 
     // Opens the sample where this is the first change or reading.
-    fn begin(&mut self, rt: &impl Print) -> io::Result<()> {
+    fn begin(&mut self, rt: &impl Print) -> Result<(), AnyError> {
         if self.begun {
             return Ok(());
         }
@@ -93,37 +98,43 @@ impl Keeper {
                 print!(rt, " {class}")?;
             }
         }
-        println!(rt, "")
+        println!(rt, "")?;
+        Ok(())
     }
 
-    fn enter(&mut self, rt: &impl Print, tag: Tag, class: u8, draw: u16) -> io::Result<()> {
+    fn enter(&mut self, rt: &impl Print, tag: Tag, who: Who, draw: u16) -> Result<(), AnyError> {
         self.begin(rt)?;
-        print!(rt, "enter {tag} of class {class}: ")?;
-        match self.sample.entry(tag, class, draw) {
-            Err(fault) => println!(rt, "refused {fault}"),
+        print!(rt, "enter {tag}")?;
+        print_who(rt, who)?;
+        match self.sample.entry(tag, who.class(), draw) {
+            Err(fault) => println!(rt, "refused {fault}")?,
             Ok(receipt) => {
                 let radix = receipt.radix;
                 match receipt.place {
-                    Some(place) => println!(rt, "radix {radix}, draw {draw}, place {place}"),
-                    None => println!(rt, "radix {radix}, draw {draw}, no place"),
+                    Some(place) => println!(rt, "radix {radix}, draw {draw}, place {place}")?,
+                    None => println!(rt, "radix {radix}, draw {draw}, no place")?,
                 }
+                self.receipts.push(receipt)?;
             }
         }
+        Ok(())
     }
 
-    fn leave(&mut self, rt: &impl Print, tag: Tag, class: u8) -> io::Result<()> {
+    fn leave(&mut self, rt: &impl Print, tag: Tag, who: Who) -> Result<(), AnyError> {
         self.begin(rt)?;
-        print!(rt, "leave {tag} of class {class}: ")?;
-        match self.sample.leave(tag, class) {
-            Err(fault) => println!(rt, "refused {fault}"),
+        print!(rt, "leave {tag}")?;
+        print_who(rt, who)?;
+        match self.sample.leave(tag, who.class()) {
+            Err(fault) => println!(rt, "refused {fault}")?,
             Ok(receipt) => match receipt.place {
-                Some(place) => println!(rt, "place {place} is a hole now"),
-                None => println!(rt, "no place"),
+                Some(place) => println!(rt, "place {place} is a hole now")?,
+                None => println!(rt, "no place")?,
             },
         }
+        Ok(())
     }
 
-    fn read(&mut self, rt: &impl Print) -> io::Result<()> {
+    fn read(&mut self, rt: &impl Print) -> Result<(), AnyError> {
         self.begin(rt)?;
         let (live, unpaired, standing) = self.sample.counts();
         println!(rt, "read: N {live}, d {unpaired}, {standing} standing")?;
@@ -136,4 +147,37 @@ impl Keeper {
         }
         Ok(())
     }
+
+    // The tape of the entries so far, a record to a line.
+    fn tape(&mut self, rt: &impl Print) -> Result<(), AnyError> {
+        self.begin(rt)?;
+        println!(rt, "tape:")?;
+        for receipt in self.receipts.iter() {
+            print_record(rt, *receipt)?;
+        }
+        Ok(())
+    }
+}
+
+fn print_who(rt: &impl Print, who: Who) -> Result<(), AnyError> {
+    let class = who.class();
+    match who {
+        Who::Class(_) => {}
+        Who::Number(number) => print!(rt, ", number {number}")?,
+        Who::Name(name) => print!(rt, ", name {name}")?,
+    }
+    print!(rt, " of class {class}: ")?;
+    Ok(())
+}
+
+fn print_record(rt: &impl Print, receipt: EntryReceipt) -> Result<(), AnyError> {
+    let mut bytes = [0u8; 6];
+    // six bytes are free, so this is never refused
+    let _ = write_record(receipt, &mut bytes, 0);
+    print!(rt, "  ")?;
+    for byte in bytes {
+        print!(rt, "{byte:02x}")?;
+    }
+    println!(rt, "")?;
+    Ok(())
 }

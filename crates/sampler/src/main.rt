@@ -1,6 +1,7 @@
 // The program keeps a bounded sample by a script on standard input, and prints what it did.
 // The settings come first, then a line for each change or reading; docs/SCRIPT.md has the words.
-// The library `pile` does the work and is proved; what is printed here is held to the file `stdout`.
+// The libraries below do the work and are proved; what is printed here is held to the file `stdout`.
+mod drawing;
 mod keeper;
 mod line;
 mod setting;
@@ -10,13 +11,23 @@ use std::error::AnyError;
 
 fn run(rt: &LibcRuntime) -> Result<(), AnyError> {
     let heap = rt.alloc();
-    let mut keeper = Keeper::new();
+    let mut keeper = Keeper::new(heap);
     let mut number = 0usize;
     for text in rt.lines(heap) {
         let text = text?;
         number = number.saturating_add(1);
         let words: Vec<&str> = text.as_str().split_whitespace().collect(heap)?;
-        keeper.follow(rt, number, line::parse(words.as_slice()))?;
+        match words.as_slice() {
+            ["draws", from, what, radices @ ..] => drawing::follow(
+                rt,
+                heap,
+                number,
+                from,
+                what,
+                radices,
+            )?,
+            words => keeper.follow(rt, number, line::parse(keeper.setting().kind, words))?,
+        }
     }
     Ok(())
 }

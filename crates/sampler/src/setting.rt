@@ -1,4 +1,5 @@
 // The setting of a sample, and its opening.
+use crate::line::Kind;
 use bottoms::Paired;
 use bottoms::PairedPile;
 use layers::ClassFilter;
@@ -17,6 +18,7 @@ pub struct Setting {
     // bit c for class c
     pub classes: u8,
     pub front: u8,
+    pub kind: Kind,
 }
 
 impl Setting {
@@ -26,6 +28,7 @@ impl Setting {
             bound: 16,
             classes: 255,
             front: 64,
+            kind: Kind::Classes,
         }
     }
 

@@ -1,0 +1,5 @@
+pub mod Entries
+pub mod Lists
+pub mod Questions
+pub mod ReadBack
+pub mod Steps
