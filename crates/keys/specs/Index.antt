@@ -4,7 +4,7 @@ use mathlib.Core.List.{List, [], _∷_}
 
 -- one byte more; 65,521 is the largest prime of two bytes
 abbrev pub mixed : (index byte : ℕ) → ℕ
-mixed index byte = ((index + byte) * 48271) % 65521
+mixed index byte = ((index + byte) * 10761) % 65521
 
 abbrev pub mixed-all : ℕ → List ℕ → ℕ
 mixed-all index [] = index

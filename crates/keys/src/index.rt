@@ -6,7 +6,7 @@ ghost use Rattle.keys.specs.Index.{mixed, mixed-all};
 pub fn mix(index: u16, byte: u8) -> u16
     ensures { λ r. ⌜ r ≡ mixed index byte ⌝ }
 {
-    ((u32::from(index) + u32::from(byte)) * 48271 % 65521) as u16
+    ((u32::from(index) + u32::from(byte)) * 10761 % 65521) as u16
 }
 
 pub fn mix_all(start: u16, bytes: &[u8]) -> u16
