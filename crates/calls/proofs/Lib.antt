@@ -1,0 +1,14 @@
+pub mod Insertions
+pub mod Ledgers
+pub mod Listings
+pub mod Members
+pub mod Piles
+pub mod Promised
+pub mod Rosters
+pub mod Runs
+pub mod Searches
+pub mod Sets
+pub mod Shares
+pub mod Sources
+pub mod Under
+pub mod Verdicts

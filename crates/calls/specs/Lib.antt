@@ -1,0 +1,10 @@
+pub mod Book
+pub mod Calls
+pub mod Example
+pub mod Insertions
+pub mod Laws
+pub mod Lists
+pub mod Past
+pub mod Promise
+pub mod Runs
+pub mod Steps
