@@ -5,8 +5,6 @@ use Rattle.pile.specs.Meaning.{Meaning}
 use Rattle.pile.specs.Rules.{radix_rule}
 use Rattle.calls.specs.Book.{KeyView, OpenEntry, Book, live_count, tag_of, free_tag}
 
--- What can be asked. A pile's bound, its counted classes and whether it takes leaves are settings, which no call changes: to ask for
--- them is no call of the list.
 pub data Question : Type 0 where
   -- what the pile tells
   what_place : (i : ℕ) → Question
@@ -33,7 +31,7 @@ pub data Verdict : Type 0 where
   refuses : (number : ℕ) → Verdict
   -- an entry is opened
   opens : OpenEntry → Verdict
-  -- the entry is settled as soon as it has a draw below its radix
+  -- the entry is settled, with a draw below its radix
   settles : OpenEntry → Verdict
   -- the open entry is ended
   withdraws : Verdict
@@ -94,7 +92,7 @@ abbrev pub withdraw_open : Option OpenEntry → (tag class radix : ℕ) → Verd
 withdraw_open None tag class radix = refuses 11
 withdraw_open (Some entry) tag class radix = withdraw_when (is_slip entry tag class radix)
 
--- Enter is admit, and then a settle of the entry that was opened. (The last four never come of an admit.)
+-- Enter is admit, and then a settle of the entry that was opened.
 abbrev pub enter_verdict : Verdict → Verdict
 enter_verdict (refuses number) = refuses number
 enter_verdict (opens entry) = settles entry
@@ -104,9 +102,9 @@ enter_verdict (lets_go key tag) = lets_go key tag
 enter_verdict (tells question) = tells question
 
 -- Leave. Lawful? 6. No entry open? 7. Live? 13. Uncounted, or does the pile take leaves? 14. Uncounted, or is N above 0? 15.
-abbrev pub leave_counted : (counted leaves some_live : Bool) → KeyView → (tag : ℕ) → Verdict
-leave_counted false leaves some_live key tag = lets_go key tag
-leave_counted true false some_live key tag = refuses 14
+abbrev pub leave_counted : (counted leaves some-live : Bool) → KeyView → (tag : ℕ) → Verdict
+leave_counted false leaves some-live key tag = lets_go key tag
+leave_counted true false some-live key tag = refuses 14
 leave_counted true true false key tag = refuses 15
 leave_counted true true true key tag = lets_go key tag
 

@@ -37,7 +37,7 @@ pub record Sound (m : Meaning) : Type 0 where
   pub few_holes : holes m.places ≤ m.unpaired
   pub few_keys : m.live + m.unpaired ≤ 1024
 
--- a new pile: N = d = 0, and so no places
+-- a pile to which nothing has happened
 pub record New (m : Meaning) : Type 0 where
   pub none_live : m.live ≡ 0
   pub none_unpaired : m.unpaired ≡ 0

@@ -121,9 +121,9 @@ vacated m tag =
       places = put m.places (tag_place m.places tag) None;
     }
 
-abbrev pub leave_when : (counted leaves some_live : Bool) → Meaning → (tag : ℕ) → Step LeaveReceipt
-leave_when false leaves some_live m tag = record { answer = told (record { place = None }); after = m }
-leave_when true false some_live m tag = record { answer = refused 14; after = m }
+abbrev pub leave_when : (counted leaves some-live : Bool) → Meaning → (tag : ℕ) → Step LeaveReceipt
+leave_when false leaves some-live m tag = record { answer = told (record { place = None }); after = m }
+leave_when true false some-live m tag = record { answer = refused 14; after = m }
 leave_when true true false m tag = record { answer = refused 15; after = m }
 leave_when true true true m tag =
     record { answer = told (record { place = tag_place m.places tag }); after = vacated m tag }

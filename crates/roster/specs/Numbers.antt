@@ -3,11 +3,8 @@ use Rattle.std.specs.Prelude.{ℕ}
 use Rattle.pile.specs.Answers.{pile_fault_number}
 use Rattle.roster.specs.declared.faults.RosterFault.{RosterFault}
 use Rattle.roster.specs.declared.faults.RosterFault.TheVariants.{Unlawful, EntryOpen, AlreadyLive, NoRoom, OtherSlip, DrawTooLarge, NotLive, Pile}
-use Rattle.sources.specs.Answers.{source_refusal}
 use Rattle.roster.specs.declared.faults.CapacityFault.{CapacityFault}
 use Rattle.roster.specs.declared.faults.CapacityFault.TheVariants.{Capacity}
-use Rattle.roster.specs.declared.faults.EnterFault.{EnterFault}
-use Rattle.roster.specs.declared.faults.EnterFault.TheVariants.{Roster, Source}
 
 abbrev pub roster_fault_number : RosterFault → ℕ
 roster_fault_number Unlawful = 6
@@ -21,7 +18,3 @@ roster_fault_number (Pile fault) = pile_fault_number fault
 
 abbrev pub capacity_fault_number : CapacityFault → ℕ
 capacity_fault_number Capacity = 1
-
-abbrev pub enter_fault_number : EnterFault → ℕ
-enter_fault_number (Roster fault) = roster_fault_number fault
-enter_fault_number (Source fault) = (source_refusal fault).number

@@ -1,12 +1,9 @@
-// Why a roster, or its opening, refuses. specs/Numbers.antt gives each fault its number.
+// Why a roster, or its opening, refuses. specs/Told.antt gives each fault its number.
 ghost use Rattle.std.specs.Prelude.{◌≡◌};
-ghost use Rattle.roster.specs.Numbers.{roster_fault_number, capacity_fault_number, enter_fault_number};
+ghost use Rattle.roster.specs.Numbers.{roster_fault_number, capacity_fault_number};
 ghost use Rattle.roster.specs.declared.faults.RosterFault.TheVariants.{Pile};
-ghost use Rattle.roster.specs.declared.faults.EnterFault.TheVariants.{Roster, Source};
 
 use pile::PileFault;
-use sources::SourceFault;
-use std::fmt;
 
 // Why a call of a roster is refused.
 #[derive(Clone, Copy)]
@@ -35,36 +32,12 @@ pub enum CapacityFault {
     Capacity,
 }
 
-// Why an enter is refused: its admit is, or its source refuses.
-#[derive(Clone, Copy)]
-pub enum EnterFault {
-    Roster(RosterFault),
-    // with its number and byte
-    Source(SourceFault),
-}
-
 // A fault of a lower layer travels up whole inside the fault above it.
 impl From<PileFault> for RosterFault {
     ghost from_gives = { λ fault r. r ≡ Pile fault };
 
     fn from(fault: PileFault) -> RosterFault {
         RosterFault::Pile(fault)
-    }
-}
-
-impl From<RosterFault> for EnterFault {
-    ghost from_gives = { λ fault r. r ≡ Roster fault };
-
-    fn from(fault: RosterFault) -> EnterFault {
-        EnterFault::Roster(fault)
-    }
-}
-
-impl From<SourceFault> for EnterFault {
-    ghost from_gives = { λ fault r. r ≡ Source fault };
-
-    fn from(fault: SourceFault) -> EnterFault {
-        EnterFault::Source(fault)
     }
 }
 
@@ -91,54 +64,6 @@ impl CapacityFault {
     {
         match self {
             CapacityFault::Capacity => 1,
-        }
-    }
-}
-
-impl EnterFault {
-    pub fn number(self) -> u8
-        ensures { result ≡ enter_fault_number self }
-    {
-        match self {
-            EnterFault::Roster(fault) => fault.number(),
-            EnterFault::Source(fault) => fault.number(),
-        }
-    }
-}
-
-impl fmt::Display for RosterFault {
-    fn fmt<W: fmt::Write>(&self, f: &mut fmt::Formatter<W>) -> fmt::Result {
-        let words = match self {
-            RosterFault::Unlawful => "the key is not lawful",
-            RosterFault::EntryOpen => "an entry is open",
-            RosterFault::AlreadyLive => "the key is live already",
-            RosterFault::NoRoom => "the roster has no room",
-            RosterFault::OtherSlip =>
-                "the slip is not the open entry's, or the pile calls for another radix",
-            RosterFault::DrawTooLarge => "the draw is not below the radix",
-            RosterFault::NotLive => "the key is not live",
-            RosterFault::Pile(fault) => return write!(f, "{fault}"),
-        };
-        let number = self.number();
-        write!(f, "{number}: {words}")
-    }
-}
-
-impl fmt::Display for CapacityFault {
-    fn fmt<W: fmt::Write>(&self, f: &mut fmt::Formatter<W>) -> fmt::Result {
-        let number = self.number();
-        write!(
-            f,
-            "{number}: the capacity is not 1 to 1024, or there are fewer records"
-        )
-    }
-}
-
-impl fmt::Display for EnterFault {
-    fn fmt<W: fmt::Write>(&self, f: &mut fmt::Formatter<W>) -> fmt::Result {
-        match self {
-            EnterFault::Roster(fault) => write!(f, "{fault}"),
-            EnterFault::Source(fault) => write!(f, "{fault}"),
         }
     }
 }

@@ -4,11 +4,8 @@ ghost use Rattle.std.specs.Prelude.{◌≤◌, length};
 use crate::record::Record;
 
 pub mod changes;
-pub mod entering;
 pub mod openings;
 pub mod questions;
-pub mod requests;
-pub mod runs;
 pub mod searches;
 
 // The numbers of the open entry; its key waits in the record of its tag.

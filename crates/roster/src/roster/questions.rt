@@ -18,7 +18,7 @@ impl<'a, K: Key> Roster<'a, K> {
     }
 
     // The live key under a tag, if there is one.
-    pub fn key_of(&self, tag: u16) -> KeyState<K>
+    fn key_of(&self, tag: u16) -> KeyState<K>
         ensures { key_told (viewed form lawful class index) result ≡ Some (slice_index_or (book_of (viewed form lawful class index) self.now).slots tag None) }
     {
         if tag >= self.capacity {
