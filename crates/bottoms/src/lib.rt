@@ -4,6 +4,8 @@
 // every class. Promised: each keeps the contract of `pile::Pile`, with the meaning that specs/Bottoms.antt gives it, and
 // what an opening gives is new.
 
+#![tactic(auto)]
+
 pub mod entries_only;
 pub mod paired;
 mod places;

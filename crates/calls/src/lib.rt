@@ -19,6 +19,9 @@
 // calls, fixed without sight of the draws, and what it does under a tape), specs/Past.antt (live keys, N, d and radices, worked out
 // from the list alone), specs/Promise.antt (the promise), specs/Laws.antt (the same for lists alone), specs/Insertions.antt and
 // specs/Example.antt.
+
+#![tactic(auto)]
+
 ghost use Rattle.std.specs.Prelude.{◌≡◌, ℕ, true, List, [], ◌∷◌, ◌++◌};
 ghost use Rattle.calls.specs.Book.{Book, new_book};
 ghost use Rattle.calls.specs.Calls.{Call};

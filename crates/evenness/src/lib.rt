@@ -14,6 +14,9 @@
 // The functions do nothing: each is there for its contract, which is a theorem. specs/Events.antt says what follows from a list of
 // events, specs/Tapes.antt what tapes and samples are and how they are counted, specs/Counting.antt what choose is, specs/Laws.antt
 // what the laws say.
+
+#![tactic(auto)]
+
 ghost use Rattle.std.specs.Prelude.{◌≡◌, ℕ, ◌+◌, ◌*◌, ◌<◌, List, [], ◌∷◌};
 ghost use Rattle.evenness.specs.Counting.{choose, factorial, falling, product};
 ghost use Rattle.evenness.specs.Events.{Event, Possible, live_count, unpaired_count, place_count, radices};

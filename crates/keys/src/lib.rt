@@ -13,6 +13,8 @@
 // specs/Index.antt what the index number is, specs/Sequences.antt what keys one after another are. The laws stand in
 // src/key.rt, and what follows from them for every kind in src/laws.rt.
 
+#![tactic(auto)]
+
 pub mod bytes;
 pub mod faults;
 mod index;

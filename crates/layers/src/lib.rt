@@ -4,6 +4,8 @@
 // contract of `pile::Pile`, with the meaning that specs/Layers.antt makes of the meaning below, and a layer opened over a
 // new pile is new.
 
+#![tactic(auto)]
+
 pub mod class_filter;
 pub mod front;
 

@@ -9,6 +9,8 @@
 // specs/Answers.antt which number and values an answer has, specs/Opening.antt what is asked before an opening,
 // specs/Laws.antt the words of the laws.
 
+#![tactic(auto)]
+
 pub mod faults;
 pub mod laws;
 pub mod opening;

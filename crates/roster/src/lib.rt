@@ -10,6 +10,8 @@
 // specs/Numbers.antt which number a fault has, specs/Opening.antt what is asked before an opening and what it gives; the
 // rules themselves are in crates/calls/specs.
 
+#![tactic(auto)]
+
 pub mod faults;
 pub mod record;
 pub mod roster;

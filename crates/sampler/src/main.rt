@@ -1,6 +1,9 @@
 // The program keeps a bounded sample by a script on standard input, and prints what it did.
 // The settings come first, then a line for each change or reading; docs/SCRIPT.md has the words.
 // The libraries below do the work and are proved; what is printed here is held to the file `stdout`.
+
+#![tactic(auto)]
+
 mod drawing;
 mod keeper;
 mod line;

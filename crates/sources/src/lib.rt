@@ -10,6 +10,8 @@
 // a generator gives, specs/Records.antt what is written, specs/Drawing.antt what drawing for a list leaves,
 // specs/Answers.antt which number and byte each fault has.
 
+#![tactic(auto)]
+
 pub mod drawing;
 pub mod faults;
 pub mod generator;
