@@ -34,23 +34,37 @@ entries_sound_now p =
 
 -- the invariant of the paired bottom, and of the entries-only one, from a sound meaning of its places
 abbrev pub PairedFacts : Places → Meaning → Type 0
-PairedFacts p m = (1 ≤ m.bound) × ((m.bound ≤ 64) × ((p.len ≡ min m.bound (m.live + m.unpaired)) × ((holes (row p) ≤ m.unpaired) × ((m.live + m.unpaired ≤ 1024) × Unit {0}))))
+PairedFacts p m =
+    record {
+      some_place : 1 ≤ m.bound;
+      few_places : m.bound ≤ 64;
+      as_many : p.len ≡ min m.bound (m.live + m.unpaired);
+      few_holes : holes (row p) ≤ m.unpaired;
+      few_keys : m.live + m.unpaired ≤ 1024;
+    }
 
 pub paired_facts : (p : Places) (m : Meaning) → row p ≡ m.places → Sound m → PairedFacts p m
 paired_facts p m e s =
     let len : p.len ≡ min m.bound (m.live + m.unpaired) = sym (row_length p) ∙ ap length e ∙ s.as_many_places in
     let few : holes (row p) ≤ m.unpaired = omega (arith, ap holes e, s.few_holes) in
-    (s.some_place, (s.few_places, (len, (few, (s.few_keys, tt)))))
+    record { some_place = s.some_place; few_places = s.few_places; as_many = len; few_holes = few; few_keys = s.few_keys }
 
 abbrev pub EntriesFacts : Places → Meaning → Type 0
-EntriesFacts p m = (1 ≤ m.bound) × ((m.bound ≤ 64) × ((p.len ≡ min m.bound m.live) × ((holes (row p) ≡ 0) × ((m.live ≤ 1024) × Unit {0}))))
+EntriesFacts p m =
+    record {
+      some_place : 1 ≤ m.bound;
+      few_places : m.bound ≤ 64;
+      as_many : p.len ≡ min m.bound m.live;
+      no_holes : holes (row p) ≡ 0;
+      few_keys : m.live ≤ 1024;
+    }
 
 pub entries_facts : (p : Places) (m : Meaning) → row p ≡ m.places → m.unpaired ≡ 0 → Sound m → EntriesFacts p m
 entries_facts p m e z s =
     let f = paired_facts p m e s in
-    let len : p.len ≡ min m.bound m.live = omega (arith, f.1.1.0) in
-    let none : holes (row p) ≡ 0 = omega (arith, f.1.1.1.0) in
-    (s.some_place, (s.few_places, (len, (none, (omega (arith, s.few_keys), tt)))))
+    let len : p.len ≡ min m.bound m.live = omega (arith, f.as_many) in
+    let none : holes (row p) ≡ 0 = omega (arith, f.few_holes) in
+    record { some_place = s.some_place; few_places = s.few_places; as_many = len; no_holes = none; few_keys = omega (arith, s.few_keys) }
 
 taken_size_sound : (b : Bool) (n : ℕ) → one_to_64 n ≡ b → (1 ≤ or_one b n) × (or_one b n ≤ 64)
 taken_size_sound true n e = let p = and_parts (leb 1 n) (leb n 64) e in (leb-true 1 n p.0, leb-true n 64 p.1)

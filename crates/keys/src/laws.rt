@@ -8,11 +8,11 @@ use crate::key::Key;
 
 // What `same` answers decides whether two lawful keys are equal.
 pub fn same_decides<K: Key>()
-    ensures { (a b : K) → lawful a ≡ true → lawful b ≡ true → Decides (bytes_eq (form a) (form b)) (a ≡ b) }
+    ensures { (a b : K) → K.lawful a ≡ true → K.lawful b ≡ true → Decides (bytes_eq (K.form a) (K.form b)) (a ≡ b) }
 {}
 
 // A written key reads back, and the rest is what stood after it.
 pub fn written_key_reads_back<K: Key>()
-    ensures key { (k : K) (buffer : List ℕ) (at : ℕ) → lawful k ≡ true → fits (form k) buffer at ≡ true → reading (put_from (form k) buffer at) ≡ read k }
-    ensures rest { (k : K) (buffer : List ℕ) (at : ℕ) → lawful k ≡ true → fits (form k) buffer at ≡ true → left_after form (reading (put_from (form k) buffer at)) (put_from (form k) buffer at) ≡ drop (at + length (form k)) buffer }
+    ensures key { (k : K) (buffer : List ℕ) (at : ℕ) → K.lawful k ≡ true → fits (K.form k) buffer at ≡ true → K.reading (put_from (K.form k) buffer at) ≡ read k }
+    ensures rest { (k : K) (buffer : List ℕ) (at : ℕ) → K.lawful k ≡ true → fits (K.form k) buffer at ≡ true → left_after K.form (K.reading (put_from (K.form k) buffer at)) (put_from (K.form k) buffer at) ≡ drop (at + length (K.form k)) buffer }
 {}

@@ -17,8 +17,8 @@ pub struct ClassFilter<P> {
 impl<P: Pile> ClassFilter<P> {
     // A filter over the pile; an empty set counts no class.
     pub fn new(classes: u8, below: P) -> ClassFilter<P>
-        ensures meaning { filtered result.classes (meaning result.below) ≡ filtered classes (meaning below) }
-        ensures new { New (meaning below) → New (filtered result.classes (meaning result.below)) }
+        ensures meaning { filtered result.classes (P.meaning result.below) ≡ filtered classes (P.meaning below) }
+        ensures new { New (P.meaning below) → New (filtered result.classes (P.meaning result.below)) }
     {
         ClassFilter { classes, below }
     }

@@ -19,8 +19,8 @@ pub struct Front<P> {
 impl<P: Pile> Front<P> {
     // A front over the pile; a size that is not 1 to 64 counts as 1.
     pub fn new(size: u8, below: P) -> Front<P>
-        ensures meaning { fronted result.size (meaning result.below) ≡ fronted (taken_size size) (meaning below) }
-        ensures new { New (meaning below) → New (fronted result.size (meaning result.below)) }
+        ensures meaning { fronted result.size (P.meaning result.below) ≡ fronted (taken_size size) (P.meaning below) }
+        ensures new { New (P.meaning below) → New (fronted result.size (P.meaning result.below)) }
     {
         Front {
             size: size_or_one(size),
@@ -40,7 +40,7 @@ impl<P: Pile> Front<P> {
 
     // How many of the first places hold a tag.
     fn standing(&self) -> u8
-        ensures { result ≡ standing (take self.now.size (meaning self.now.below).places) }
+        ensures { result ≡ standing (take self.now.size (P.meaning self.now.below).places) }
     {
         let mut count = 0;
         for i in 0..self.size {

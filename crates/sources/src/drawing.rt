@@ -15,11 +15,11 @@ pub struct Drawn {
 
 // Draws for the radices in order, as far as the list of draws has room, up to the first refusal.
 pub fn draw_all<S: Source>(source: &mut S, radices: &[u16], draws: &mut [u16]) -> Drawn
-    ensures count { result.count ≡ length (given_for (course source.old) radices.now draws.old).draws }
-    ensures refusal { told_refusal result.refusal ≡ (given_for (course source.old) radices.now draws.old).refusal }
-    ensures draws { draws.new ≡ put_front (given_for (course source.old) radices.now draws.old).draws draws.old }
+    ensures count { result.count ≡ length (given_for (S.course source.old) radices.now draws.old).draws }
+    ensures refusal { told_refusal result.refusal ≡ (given_for (S.course source.old) radices.now draws.old).refusal }
+    ensures draws { draws.new ≡ put_front (given_for (S.course source.old) radices.now draws.old).draws draws.old }
     ensures below { (k : ℕ) → k < result.count → slice_index draws.new k < slice_index radices.now k }
-    ensures after { (more : List ℕ) → (course source.old).gives (take result.count radices.now ++ more) ≡ all_before (take result.count draws.new) ((course source.new).gives more) }
+    ensures after { (more : List ℕ) → (S.course source.old).gives (take result.count radices.now ++ more) ≡ all_before (take result.count draws.new) ((S.course source.new).gives more) }
 {
     let count = radices.len().min(draws.len());
     for i in 0..count {

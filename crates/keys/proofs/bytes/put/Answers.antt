@@ -12,5 +12,5 @@ returns c =
     let room : fits bytes buffer at ≡ true = le-leb _ _ (omega arith) in
     record {
       count = ap (λ b. count_if b (length bytes)) (sym room);
-      after = put_mid_is at bytes buffer _ c.copy-from-slice.ensures.after ∙ ap (λ b. buffer_if b bytes buffer at) (sym room);
+      after = put_mid_is at bytes buffer _ c.copy_from_slice.ensures.after ∙ ap (λ b. buffer_if b bytes buffer at) (sym room);
     }

@@ -2,11 +2,11 @@ use Rattle.std.proofs.Common.{arith}
 use Rattle.keys.proofs.Runs.{come_more, come_full, come_refused, filled_back}
 use Rattle.keys.proofs.sequences.read_keys.Goals as goal
 
-pub returns-in-default : goal.returns-in-default
-returns-in-default g c =
+pub returns-in_default : goal.returns-in_default
+returns-in_default g c =
     let key = g.K.Key in
     let l = c.loop-count in
-    let ended = come_refused key.form key.reading _ c.args.into.now l.into l.count l.left.now _ c.in-default.ensures l.invariant in
+    let ended = come_refused key.form key.reading _ c.args.into.now l.into l.count l.left.now _ c.in_default.ensures l.invariant in
     record {
       count = ended.count_is;
       after = ended.now_is;

@@ -13,6 +13,6 @@ returns c =
     record {
       answer = ap (λ b. write_when b offset) (sym room);
       bytes =
-          put_record offset (offset + 6) tape c.copy-from-slice.new.self bytes refl (c.copy-from-slice.ensures.after ∙ c.record-of-record.ensures)
+          put_record offset (offset + 6) tape c.copy_from_slice.new.self bytes refl (c.copy_from_slice.ensures.after ∙ c.record_of-record.ensures)
           ∙ ap (λ b. written_when b tape offset bytes) (sym room);
     }

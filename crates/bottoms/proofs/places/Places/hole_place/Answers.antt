@@ -8,28 +8,28 @@ use Rattle.bottoms.proofs.places.Places.hole_place.Goals as goal
 pub loop-i-init : goal.loop-i-init
 loop-i-init c = moved_none (hole_place (row c.args.self.now) c.args.draw)
 
-pub loop-i-preserved-then-is-some : goal.loop-i-preserved-then-is-some
-loop-i-preserved-then-is-some c =
+pub loop-i-preserved-then-is_some : goal.loop-i-preserved-then-is_some
+loop-i-preserved-then-is_some c =
     let p = c.args.self.now in
     let i = c.loop-i.i in
-    sym (hole_pass (row p) i c.at.result (omega (arith, row_length p)) c.at.ensures c.loop-i.to-pass (sym c.is-some.ensures ∙ c.if-is-some.true))
+    sym (hole_pass (row p) i c.at.result (omega (arith, row_length p)) c.at.ensures c.loop-i.to_pass (sym c.is_some.ensures ∙ c.if-is_some.true))
     ∙ c.loop-i.invariant
 
-pub returns-then-to-pass-eq0 : goal.returns-then-to-pass-eq0
-returns-then-to-pass-eq0 c =
+pub returns-then-to_pass-eq0 : goal.returns-then-to_pass-eq0
+returns-then-to_pass-eq0 c =
     let p = c.args.self.now in
     let i = c.loop-i.i in
-    sym (hole_found (row p) i c.at.result (omega (arith, row_length p)) c.at.ensures c.loop-i.to-pass (sym c.is-some.ensures ∙ c.if-is-some.false) c.if-to-pass-eq0.true)
+    sym (hole_found (row p) i c.at.result (omega (arith, row_length p)) c.at.ensures c.loop-i.to_pass (sym c.is_some.ensures ∙ c.if-is_some.false) c.if-to_pass-eq0.true)
     ∙ c.loop-i.invariant
 
 pub loop-i-preserved : goal.loop-i-preserved
 loop-i-preserved c =
     let p = c.args.self.now in
     let i = c.loop-i.i in
-    sym (hole_skip (row p) i c.at.result (omega (arith, row_length p)) c.at.ensures c.loop-i.to-pass (sym c.is-some.ensures ∙ c.if-is-some.false) c.if-to-pass-eq0.false)
+    sym (hole_skip (row p) i c.at.result (omega (arith, row_length p)) c.at.ensures c.loop-i.to_pass (sym c.is_some.ensures ∙ c.if-is_some.false) c.if-to_pass-eq0.false)
     ∙ c.loop-i.invariant
 
 pub returns : goal.returns
 returns c =
     let p = c.args.self.now in
-    sym (search_ends (λ qs. hole_place qs c.loop-i.to-pass) refl (row p) c.loop-i.i (omega (arith, row_length p))) ∙ c.loop-i.invariant
+    sym (search_ends (λ qs. hole_place qs c.loop-i.to_pass) refl (row p) c.loop-i.i (omega (arith, row_length p))) ∙ c.loop-i.invariant

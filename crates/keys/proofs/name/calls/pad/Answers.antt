@@ -2,4 +2,4 @@ use Rattle.keys.specs.NamesLemmas.{padded_is}
 use Rattle.keys.proofs.name.calls.pad.Goals as goal
 
 pub returns : goal.returns
-returns c = padded_is c.args.text.now c.copy-from-slice.new.self c.copy-from-slice.ensures.after
+returns c = padded_is c.args.text.now c.copy_from_slice.new.self c.copy_from_slice.ensures.after

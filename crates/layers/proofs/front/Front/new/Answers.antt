@@ -8,6 +8,6 @@ pub returns : goal.returns
 returns g c =
     let m = g.P.Pile.meaning c.args.below in
     record {
-      meaning = ap (λ (s : ℕ). fronted s m) c.size-or-one.ensures;
-      new = fronted_new c.size-or-one.result m;
+      meaning = ap (λ (s : ℕ). fronted s m) c.size_or_one.ensures;
+      new = fronted_new c.size_or_one.result m;
     }

@@ -10,8 +10,8 @@ loop-i-preserved g c =
     elim c.match-place.branch [
       | goal.in-Held w ↦
           let one : held (place_told c.place.result) ≡ 1 = ap (λ p. held (place_told p)) w.in-Held.is in
-          (omega (arith, w.count_is), omega (arith, w.count_is, one, next))
-      | goal.in-default w ↦
-          let none = held_none c.place.result w.in-default.not-Held in
-          (omega (arith, w.count_is), omega (arith, w.count_is, none, next))
+          (omega (arith, w.count-is), omega (arith, w.count-is, one, next))
+      | goal.in_default w ↦
+          let none = held_none c.place.result w.in_default.not-Held in
+          (omega (arith, w.count-is), omega (arith, w.count-is, none, next))
     ]

@@ -9,7 +9,7 @@ pub returns : goal.returns
 returns g c =
     let s = c.args.self.now.size in
     let p = c.args.self.now.below in
-    let came = c.in-ok-entered in
+    let came = c.in_ok-entered in
     let front = entry_front s (g.P.Pile.meaning p) (g.met.P.Pile.sound p) c.args.tag c.args.class c.args.draw in
     record {
       answer =

@@ -16,6 +16,6 @@ returns g c =
     let front = leave_front s (g.P.Pile.meaning p) (g.met.P.Pile.sound p) c.args.tag c.args.class in
     record {
       answer =
-          ap receipt_of c.shown.ensures ∙ ap (shown_leave s) c.in-ok-left.ensures.answer ∙ front.answers;
+          ap receipt_of c.shown.ensures ∙ ap (shown_leave s) c.in_ok-left.ensures.answer ∙ front.answers;
       after = ap (fronted s) c.leave.ensures.after ∙ front.afters;
     }

@@ -11,13 +11,13 @@ use Rattle.roster.specs.Numbers.{roster_fault_number}
 use Rattle.roster.proofs.Books.{book_with, book_opened, numbers}
 use Rattle.roster.proofs.roster.Roster.admit.Goals as goal
 
-pub returns-in-err-tag : goal.returns-in-err-tag
-returns-in-err-tag g c =
+pub returns-in_err-tag : goal.returns-in_err-tag
+returns-in_err-tag g c =
     let view = viewed g.K.Key.form g.K.Key.lawful g.K.Key.class g.K.Key.index in
     let b = book_of view c.args.self.now in
     let m = g.P.Pile.meaning c.args.pile.now in
     let came = err_from_is_err_and c.from-residual.result c.from-residual.ensures.1 in
-    let refused = c.in-err-tag.ensures (radix_rule m (view c.args.key).class) in
+    let refused = c.in_err-tag.ensures (radix_rule m (view c.args.key).class) in
     record {
       answer = ap admit_told came.1 ∙ ap (λ f. admit_told (Err f)) came.2 ∙ sym (ap (λ (v : Verdict). (carried_out v (gives 0) b m).answer) refused);
       roster = sym (ap (λ (v : Verdict). (carried_out v (gives 0) b m).book) refused);
@@ -30,16 +30,16 @@ returns g c =
     let b = book_of view p in
     let m = g.P.Pile.meaning c.args.pile.now in
     let key = c.args.key in
-    let tag = c.in-ok-tag.tag in
-    let can = c.in-ok-tag.ensures in
-    let called : told c.in-ok-radix.radix ≡ radix_rule m (view key).class =
-    c.in-ok-radix.ensures ∙ ap (radix_rule m) c.class-class.ensures in
+    let tag = c.in_ok-tag.tag in
+    let can = c.in_ok-tag.ensures in
+    let called : told c.in_ok-radix.radix ≡ radix_rule m (view key).class =
+    c.in_ok-radix.ensures ∙ ap (radix_rule m) c.class-class.ensures in
     let opens = can.admits (radix_rule m (view key).class) ∙ ap (λ t. admit_radix t (view key) tag) (sym called) in
     record {
-      answer = ap (λ k. slip tag k c.in-ok-radix.radix) c.class-class.ensures ∙ sym (ap (λ (v : Verdict). (carried_out v (gives 0) b m).answer) opens);
+      answer = ap (λ k. slip tag k c.in_ok-radix.radix) c.class-class.ensures ∙ sym (ap (λ (v : Verdict). (carried_out v (gives 0) b m).answer) opens);
       roster =
-          ap (λ rs. book_with view rs c.put.new.self.capacity (Some (numbers view tag c.in-ok-radix.radix))) c.put.ensures.records
-          ∙ ap (λ (n : ℕ). book_with view (set p.records.now tag (Waiting key)) n (Some (numbers view tag c.in-ok-radix.radix))) c.put.ensures.capacity
-          ∙ book_opened view p.records.now p.capacity tag can.within p.within key c.in-ok-radix.radix p.opening can.free
+          ap (λ rs. book_with view rs c.put.new.self.capacity (Some (numbers view tag c.in_ok-radix.radix))) c.put.ensures.records
+          ∙ ap (λ (n : ℕ). book_with view (set p.records.now tag (Waiting key)) n (Some (numbers view tag c.in_ok-radix.radix))) c.put.ensures.capacity
+          ∙ book_opened view p.records.now p.capacity tag can.within p.within key c.in_ok-radix.radix p.opening can.free
           ∙ sym (ap (λ (v : Verdict). (carried_out v (gives 0) b m).book) opens);
     }

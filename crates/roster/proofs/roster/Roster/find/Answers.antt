@@ -17,7 +17,7 @@ returns-then-holds g c =
     let view = viewed g.K.Key.form g.K.Key.lawful g.K.Key.class g.K.Key.index in
     let p = c.args.self.now in
     let len = slots_length view p.records.now p.capacity p.within in
-    let passes = ap (holds_form (g.K.Key.form c.args.key.now)) (sym c.record-at.ensures.slot) ∙ sym c.holds.ensures ∙ c.if-holds.true in
+    let passes = ap (holds_form (g.K.Key.form c.args.key.now)) (sym c.record_at.ensures.slot) ∙ sym c.holds.ensures ∙ c.if-holds.true in
     record {
       value = sym (seek_found (holds_form (g.K.Key.form c.args.key.now)) (book_of view p).slots p.capacity (c.index.result % p.capacity) c.loop-i.i c.turn-tag.result len c.loop-i-test.true c.turn-tag.ensures.value passes)
           ∙ c.loop-i.invariant.1;
@@ -29,7 +29,7 @@ loop-i-preserved g c =
     let view = viewed g.K.Key.form g.K.Key.lawful g.K.Key.class g.K.Key.index in
     let p = c.args.self.now in
     let len = slots_length view p.records.now p.capacity p.within in
-    let fails = ap (holds_form (g.K.Key.form c.args.key.now)) (sym c.record-at.ensures.slot) ∙ sym c.holds.ensures ∙ c.if-holds.false in
+    let fails = ap (holds_form (g.K.Key.form c.args.key.now)) (sym c.record_at.ensures.slot) ∙ sym c.holds.ensures ∙ c.if-holds.false in
     (c.loop-i.invariant.0, sym (seek_pass (holds_form (g.K.Key.form c.args.key.now)) (book_of view p).slots p.capacity (c.index.result % p.capacity) c.loop-i.i c.turn-tag.result len c.loop-i-test.true c.turn-tag.ensures.value fails) ∙ c.loop-i.invariant.1)
 
 pub returns : goal.returns

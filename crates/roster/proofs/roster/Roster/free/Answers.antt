@@ -12,12 +12,12 @@ loop-i-init g c =
     let some : 0 < p.capacity = omega arith in
     (mod-lt _ some, seek_begins (is_free) (book_of view p).slots p.capacity (view c.args.key.now).index _ len (ap (λ k. k % p.capacity) c.index.ensures))
 
-pub returns-then-is-free : goal.returns-then-is-free
-returns-then-is-free g c =
+pub returns-then-is_free : goal.returns-then-is_free
+returns-then-is_free g c =
     let view = viewed g.K.Key.form g.K.Key.lawful g.K.Key.class g.K.Key.index in
     let p = c.args.self.now in
     let len = slots_length view p.records.now p.capacity p.within in
-    let passes = ap (is_free) (sym c.record-at.ensures.slot) ∙ sym c.is-free.ensures ∙ c.if-is-free.true in
+    let passes = ap (is_free) (sym c.record_at.ensures.slot) ∙ sym c.is_free.ensures ∙ c.if-is_free.true in
     record {
       value = sym (seek_found (is_free) (book_of view p).slots p.capacity (c.index.result % p.capacity) c.loop-i.i c.turn-tag.result len c.loop-i-test.true c.turn-tag.ensures.value passes)
           ∙ c.loop-i.invariant.1;
@@ -30,7 +30,7 @@ loop-i-preserved g c =
     let view = viewed g.K.Key.form g.K.Key.lawful g.K.Key.class g.K.Key.index in
     let p = c.args.self.now in
     let len = slots_length view p.records.now p.capacity p.within in
-    let fails = ap (is_free) (sym c.record-at.ensures.slot) ∙ sym c.is-free.ensures ∙ c.if-is-free.false in
+    let fails = ap (is_free) (sym c.record_at.ensures.slot) ∙ sym c.is_free.ensures ∙ c.if-is_free.false in
     (c.loop-i.invariant.0, sym (seek_pass (is_free) (book_of view p).slots p.capacity (c.index.result % p.capacity) c.loop-i.i c.turn-tag.result len c.loop-i-test.true c.turn-tag.ensures.value fails) ∙ c.loop-i.invariant.1)
 
 pub returns : goal.returns

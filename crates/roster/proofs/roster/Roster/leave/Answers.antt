@@ -16,11 +16,11 @@ returns g c =
     let b = book_of view p in
     let m = g.P.Pile.meaning c.args.pile.now in
     let tag = c.in-Some.tag in
-    let live = c.in-Some-live-key.live in
-    let closed = sym c.open-entry.ensures.value ∙ none_open view c.open-entry.result (sym c.if-is-some.ensures) in
-    let held = sym c.record-at.ensures.slot ∙ sym c.live-key.ensures ∙ ap (option_map view) c.in-Some-live-key.is in
-    let accepted = c.in-ok-receipt.ensures.answer ∙ ap (λ (k : ℕ). (leave_rule m tag k).answer) c.class.ensures in
-    let done = gone_step b m (view c.args.key) (view live) tag c.in-ok-receipt.receipt (sym c.is-lawful.ensures ∙ c.if-not-is-lawful.false) closed (sym c.in-Some.ensures.value) held accepted in
+    let live = c.in-Some-live_key.live in
+    let closed = sym c.open_entry.ensures.value ∙ none_open view c.open_entry.result (sym c.if-is_some.ensures) in
+    let held = sym c.record_at.ensures.slot ∙ sym c.live_key.ensures ∙ ap (option_map view) c.in-Some-live_key.is in
+    let accepted = c.in_ok-receipt.ensures.answer ∙ ap (λ (k : ℕ). (leave_rule m tag k).answer) c.class.ensures in
+    let done = gone_step b m (view c.args.key) (view live) tag c.in_ok-receipt.receipt (sym c.is_lawful.ensures ∙ c.if-not-is_lawful.false) closed (sym c.in-Some.ensures.value) held accepted in
     record {
       answer = sym (ap (λ (x : Step). x.answer) done);
       roster =

@@ -11,10 +11,10 @@ loop-i-preserved g c =
     let slots = (book_of view p).slots in
     let len = slots_length view p.records.now p.capacity p.within in
     let h : c.loop-i.i < length slots = omega (arith, len) in
-    let is = c.is-free.ensures ∙ ap is_free c.record-at.ensures.slot in
-    elim c.if-not-is-free.branch [
-      | goal.then-not-is-free w ↦ let more = count_live slots c.loop-i.i c.is-free.result h is w.if-not-is-free.true in (omega (arith, w.count_is), omega (arith, w.count_is, more))
-      | goal.else-not-is-free w ↦ let more = count_free slots c.loop-i.i c.is-free.result h is w.if-not-is-free.false in (omega (arith, w.count_is), omega (arith, w.count_is, more))
+    let is = c.is_free.ensures ∙ ap is_free c.record_at.ensures.slot in
+    elim c.if-not-is_free.branch [
+      | goal.then-not-is_free w ↦ let more = count_live slots c.loop-i.i c.is_free.result h is w.if-not-is_free.true in (omega (arith, w.count-is), omega (arith, w.count-is, more))
+      | goal.else-not-is_free w ↦ let more = count_free slots c.loop-i.i c.is_free.result h is w.if-not-is_free.false in (omega (arith, w.count-is), omega (arith, w.count-is, more))
     ]
 
 pub returns : goal.returns

@@ -10,8 +10,8 @@ pub returns : goal.returns
 returns g c =
     let view = viewed g.K.Key.form g.K.Key.lawful g.K.Key.class g.K.Key.index in
     let rs = c.args.records.now in
-    let n = c.capacity-or-none-capacity.result in
-    let taken = c.capacity-or-none-capacity.ensures in
+    let n = c.capacity_or_none-capacity.result in
+    let taken = c.capacity_or_none-capacity.ensures in
     let clears = c.clear.ensures ∙ ap (cleared rs) c.from.ensures in
     let meaning =
     ap (λ x. book_with view x n None) clears

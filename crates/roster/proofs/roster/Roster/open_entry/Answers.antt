@@ -9,9 +9,9 @@ pub returns-in-Some : goal.returns-in-Some
 returns-in-Some g c =
     let view = viewed g.K.Key.form g.K.Key.lawful g.K.Key.class g.K.Key.index in
     let p = c.args.self.now in
-    let value = c.waiting.ensures ∙ ap (λ z. waiting view z c.in-Some.opening) c.record-at.ensures.value
+    let value = c.waiting.ensures ∙ ap (λ z. waiting view z c.in-Some.opening) c.record_at.ensures.value
     ∙ ap (entry_of view (take p.capacity p.records.now)) (sym c.in-Some.is) in
-    record { value = value; slot = pending_slot view p c.in-Some.opening c.record-at.result c.waiting.result c.if-opening-self.true c.record-at.ensures.slot c.waiting.ensures }
+    record { value = value; slot = pending_slot view p c.in-Some.opening c.record_at.result c.waiting.result c.if-opening-self.true c.record_at.ensures.slot c.waiting.ensures }
 
 pub returns-in-Some-2 : goal.returns-in-Some-2
 returns-in-Some-2 g c =

@@ -16,11 +16,11 @@ returns-in-Ok g c =
     let s = c.args.slip in
     let key = c.in-Some.pending.key in
     let entry = pending_entry view c.in-Some.pending in
-    let fits = sym c.is-of.ensures ∙ c.if-not-is-of.false in
-    let waits = sym c.open-entry.ensures.value ∙ ap (open_told view) c.in-Some.is in
-    let called = sym c.calls_for.ensures ∙ c.if-not-calls-for.false in
+    let fits = sym c.is_of.ensures ∙ c.if-not-is_of.false in
+    let waits = sym c.open_entry.ensures.value ∙ ap (open_told view) c.in-Some.is in
+    let called = sym c.calls_for.ensures ∙ c.if-not-calls_for.false in
     let done = settled_step b m entry s.tag s.class s.radix c.args.draw waits fits called c.if-draw-slip.false in
-    let slot = MatchOption-at_some _ _ c.in-Some.pending c.in-Some.is c.open-entry.ensures.slot in
+    let slot = MatchOption-at_some _ _ c.in-Some.pending c.in-Some.is c.open_entry.ensures.slot in
     let same = (slip_fits entry s.tag s.class s.radix fits).tags in
     record {
       answer = ap entry_answer c.in-Ok.ensures.answer ∙ sym (ap (λ (x : Step). x.answer) done);

@@ -18,10 +18,10 @@ returns g c =
     elim c.match-entry.branch [
       | goal.in-Some w ↦
           let entry = pending_entry view w.in-Some.pending in
-          let fits = sym w.is-of-mine.ensures ∙ sym w.mine-is ∙ c.if-not-mine.false in
-          let waits = sym c.open-entry-entry.ensures.value ∙ ap (open_told view) w.in-Some.is in
+          let fits = sym w.is_of-mine.ensures ∙ sym w.mine-is ∙ c.if-not-mine.false in
+          let waits = sym c.open_entry-entry.ensures.value ∙ ap (open_told view) w.in-Some.is in
           let ends = withdraws_with b.entry entry s.tag s.class s.radix waits fits in
-          let slot = MatchOption-at_some _ _ w.in-Some.pending w.in-Some.is c.open-entry-entry.ensures.slot in
+          let slot = MatchOption-at_some _ _ w.in-Some.pending w.in-Some.is c.open_entry-entry.ensures.slot in
           let same = (slip_fits entry s.tag s.class s.radix fits).tags in
           record {
             answer = λ m. sym (ap (λ (v : Verdict). (carried_out v (gives 0) b m).answer) ends);

@@ -5,4 +5,4 @@ use Rattle.keys.proofs.name.calls.NameKey.read.Goals as goal
 pub returns : goal.returns
 returns c =
     c.new.ensures
-    ∙ reading_at c.args.bytes.now c.from-len.result c.from-len.ensures (sym c.if-not-is-lawful-length.ensures) c.if-rest-len.false
+    ∙ reading_at c.args.bytes.now c.from-len.result c.from-len.ensures (sym c.if-not-is_lawful_length.ensures) c.if-rest-len.false
