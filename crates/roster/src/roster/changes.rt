@@ -19,7 +19,7 @@ use pile::{EntryReceipt, LeaveReceipt, Pile};
 
 impl<K: Key> Record<K> {
     fn waiting(self, opening: Opening) -> Option<Pending<K>>
-        ensures { open_told (viewed form lawful class index) result ≡ waiting (viewed form lawful class index) self opening }
+        ensures { open_told (viewed K.form K.lawful K.class K.index) result ≡ waiting (viewed K.form K.lawful K.class K.index) self opening }
     {
         match self {
             Record::Waiting(key) => Some(Pending {
@@ -34,7 +34,7 @@ impl<K: Key> Record<K> {
 
 impl<K: Key> Record<K> {
     pub(crate) fn live_key(self) -> Option<K>
-        ensures { option_map (viewed form lawful class index) result ≡ slot_of (viewed form lawful class index) self }
+        ensures { option_map (viewed K.form K.lawful K.class K.index) result ≡ slot_of (viewed K.form K.lawful K.class K.index) self }
     {
         match self {
             Record::Live(key) => Some(key),
@@ -45,7 +45,7 @@ impl<K: Key> Record<K> {
 
 impl Slip {
     fn is_of<K: Key>(&self, entry: &Pending<K>) -> bool
-        ensures { result ≡ is_slip (pending_entry (viewed form lawful class index) entry.now) self.now.tag self.now.class self.now.radix }
+        ensures { result ≡ is_slip (pending_entry (viewed K.form K.lawful K.class K.index) entry.now) self.now.tag self.now.class self.now.radix }
     {
         entry.tag == self.tag && entry.key.class() == self.class && entry.radix == self.radix
     }
@@ -53,7 +53,7 @@ impl Slip {
 
 // Whether the pile calls for this radix.
 fn calls_for<P: Pile>(pile: &P, class: u8, radix: u16) -> bool
-    ensures { result ≡ calls_for (radix_rule (meaning pile.now) class) radix }
+    ensures { result ≡ calls_for (radix_rule (P.meaning pile.now) class) radix }
 {
     match pile.radix(class) {
         Ok(called) => called == radix,
@@ -74,8 +74,8 @@ impl<'a, K: Key> Roster<'a, K> {
 
     // The open entry.
     pub fn open_entry(&self) -> Option<Pending<K>>
-        ensures value { open_told (viewed form lawful class index) result ≡ (book_of (viewed form lawful class index) self.now).entry }
-        ensures slot { IfSome result (λ p. (p.tag < self.now.capacity) × (slice_index_or (book_of (viewed form lawful class index) self.now).slots p.tag None ≡ None)) }
+        ensures value { open_told (viewed K.form K.lawful K.class K.index) result ≡ (book_of (viewed K.form K.lawful K.class K.index) self.now).entry }
+        ensures slot { IfSome result (λ p. (p.tag < self.now.capacity) × (slice_index_or (book_of (viewed K.form K.lawful K.class K.index) self.now).slots p.tag None ≡ None)) }
     {
         match self.opening {
             None => None,
@@ -88,7 +88,7 @@ impl<'a, K: Key> Roster<'a, K> {
 
     // The questions of admit before the pile's: the tag that the key would get, or why it gets none.
     fn admissible(&self, key: &K) -> Result<u16, RosterFault>
-        ensures { MatchResult result (λ tag. Admissible (viewed form lawful class index) self.now key.now tag) (λ fault. Refused (viewed form lawful class index) self.now key.now (roster_fault_number fault)) }
+        ensures { MatchResult result (λ tag. Admissible (viewed K.form K.lawful K.class K.index) self.now key.now tag) (λ fault. Refused (viewed K.form K.lawful K.class K.index) self.now key.now (roster_fault_number fault)) }
     {
         if !key.is_lawful() {
             return Err(RosterFault::Unlawful);
@@ -110,8 +110,8 @@ impl<'a, K: Key> Roster<'a, K> {
 
     // Opens an entry for the key, and answers its slip.
     pub fn admit<P: Pile>(&mut self, key: K, pile: &P) -> Result<Slip, RosterFault>
-        ensures answer { admit_told result ≡ (step (book_of (viewed form lawful class index) self.old) (meaning pile.now) (admit (viewed form lawful class index key)) (gives 0)).answer }
-        ensures roster { book_of (viewed form lawful class index) self.new ≡ (step (book_of (viewed form lawful class index) self.old) (meaning pile.now) (admit (viewed form lawful class index key)) (gives 0)).book }
+        ensures answer { admit_told result ≡ (step (book_of (viewed K.form K.lawful K.class K.index) self.old) (P.meaning pile.now) (admit (viewed K.form K.lawful K.class K.index key)) (gives 0)).answer }
+        ensures roster { book_of (viewed K.form K.lawful K.class K.index) self.new ≡ (step (book_of (viewed K.form K.lawful K.class K.index) self.old) (P.meaning pile.now) (admit (viewed K.form K.lawful K.class K.index key)) (gives 0)).book }
     {
         let tag = self.admissible(&key)?;
         let class = key.class();
@@ -123,8 +123,8 @@ impl<'a, K: Key> Roster<'a, K> {
 
     // Ends the open entry.
     pub fn withdraw(&mut self, slip: Slip) -> Result<(), RosterFault>
-        ensures answer { (m : Meaning) → withdraw_told result ≡ (step (book_of (viewed form lawful class index) self.old) m (withdraw slip.tag slip.class slip.radix) (gives 0)).answer }
-        ensures roster { (m : Meaning) → book_of (viewed form lawful class index) self.new ≡ (step (book_of (viewed form lawful class index) self.old) m (withdraw slip.tag slip.class slip.radix) (gives 0)).book }
+        ensures answer { (m : Meaning) → withdraw_told result ≡ (step (book_of (viewed K.form K.lawful K.class K.index) self.old) m (withdraw slip.tag slip.class slip.radix) (gives 0)).answer }
+        ensures roster { (m : Meaning) → book_of (viewed K.form K.lawful K.class K.index) self.new ≡ (step (book_of (viewed K.form K.lawful K.class K.index) self.old) m (withdraw slip.tag slip.class slip.radix) (gives 0)).book }
     {
         let entry = self.open_entry();
         let mine = match entry {
@@ -151,10 +151,10 @@ impl<'a, K: Key> Roster<'a, K> {
         pile: &mut P,
         draw: u16,
     ) -> Result<EntryReceipt, Unsettled>
-        ensures answer { settle_told result ≡ (step (book_of (viewed form lawful class index) self.old) (meaning pile.old) (settle slip.tag slip.class slip.radix) (gives draw)).answer }
+        ensures answer { settle_told result ≡ (step (book_of (viewed K.form K.lawful K.class K.index) self.old) (P.meaning pile.old) (settle slip.tag slip.class slip.radix) (gives draw)).answer }
         ensures back { slip_back result slip }
-        ensures roster { book_of (viewed form lawful class index) self.new ≡ (step (book_of (viewed form lawful class index) self.old) (meaning pile.old) (settle slip.tag slip.class slip.radix) (gives draw)).book }
-        ensures pile { meaning pile.new ≡ (step (book_of (viewed form lawful class index) self.old) (meaning pile.old) (settle slip.tag slip.class slip.radix) (gives draw)).pile }
+        ensures roster { book_of (viewed K.form K.lawful K.class K.index) self.new ≡ (step (book_of (viewed K.form K.lawful K.class K.index) self.old) (P.meaning pile.old) (settle slip.tag slip.class slip.radix) (gives draw)).book }
+        ensures pile { P.meaning pile.new ≡ (step (book_of (viewed K.form K.lawful K.class K.index) self.old) (P.meaning pile.old) (settle slip.tag slip.class slip.radix) (gives draw)).pile }
     {
         let Some(pending) = self.open_entry() else {
             return Err(Unsettled {
@@ -200,9 +200,9 @@ impl<'a, K: Key> Roster<'a, K> {
 
     // Ends a key's life, and leaves the pile.
     pub fn leave<P: Pile>(&mut self, key: K, pile: &mut P) -> Result<LeaveReceipt, RosterFault>
-        ensures answer { leave_told result ≡ (step (book_of (viewed form lawful class index) self.old) (meaning pile.old) (leave (viewed form lawful class index key)) (gives 0)).answer }
-        ensures roster { book_of (viewed form lawful class index) self.new ≡ (step (book_of (viewed form lawful class index) self.old) (meaning pile.old) (leave (viewed form lawful class index key)) (gives 0)).book }
-        ensures pile { meaning pile.new ≡ (step (book_of (viewed form lawful class index) self.old) (meaning pile.old) (leave (viewed form lawful class index key)) (gives 0)).pile }
+        ensures answer { leave_told result ≡ (step (book_of (viewed K.form K.lawful K.class K.index) self.old) (P.meaning pile.old) (leave (viewed K.form K.lawful K.class K.index key)) (gives 0)).answer }
+        ensures roster { book_of (viewed K.form K.lawful K.class K.index) self.new ≡ (step (book_of (viewed K.form K.lawful K.class K.index) self.old) (P.meaning pile.old) (leave (viewed K.form K.lawful K.class K.index key)) (gives 0)).book }
+        ensures pile { P.meaning pile.new ≡ (step (book_of (viewed K.form K.lawful K.class K.index) self.old) (P.meaning pile.old) (leave (viewed K.form K.lawful K.class K.index key)) (gives 0)).pile }
     {
         if !key.is_lawful() {
             return Err(RosterFault::Unlawful);

@@ -45,8 +45,8 @@ fn clear<K: Copy>(records: &mut [Record<K>], count: usize)
 impl<'a, K: Key> Roster<'a, K> {
     // A new roster over the first records; a capacity that does not pass counts as 0. The other records stay.
     pub fn new(records: &'a mut [Record<K>], capacity: u16) -> Roster<'a, K>
-        ensures meaning { book_of (viewed form lawful class index) result ≡ opened_book (taken_capacity capacity (length records.old)) }
-        ensures new { new_book (book_of (viewed form lawful class index) result) ≡ true }
+        ensures meaning { book_of (viewed K.form K.lawful K.class K.index) result ≡ opened_book (taken_capacity capacity (length records.old)) }
+        ensures new { new_book (book_of (viewed K.form K.lawful K.class K.index) result) ≡ true }
         ensures records { result.records.now ≡ cleared records.old (taken_capacity capacity (length records.old)) }
     {
         let capacity = capacity_or_none(capacity, records.len());

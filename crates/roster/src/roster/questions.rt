@@ -12,14 +12,14 @@ use pile::{Pile, PlaceState};
 
 impl<'a, K: Key> Roster<'a, K> {
     pub fn is_live(&self, key: &K) -> bool
-        ensures { result ≡ is_some (tag_of (book_of (viewed form lawful class index) self.now).slots (viewed form lawful class index key.now)) }
+        ensures { result ≡ is_some (tag_of (book_of (viewed K.form K.lawful K.class K.index) self.now).slots (viewed K.form K.lawful K.class K.index key.now)) }
     {
         self.find(key).is_some()
     }
 
     // The live key under a tag, if there is one.
     fn key_of(&self, tag: u16) -> KeyState<K>
-        ensures { key_told (viewed form lawful class index) result ≡ Some (slice_index_or (book_of (viewed form lawful class index) self.now).slots tag None) }
+        ensures { key_told (viewed K.form K.lawful K.class K.index) result ≡ Some (slice_index_or (book_of (viewed K.form K.lawful K.class K.index) self.now).slots tag None) }
     {
         if tag >= self.capacity {
             return KeyState::Hole;
@@ -32,7 +32,7 @@ impl<'a, K: Key> Roster<'a, K> {
 
     // The key on a place of the pile.
     pub fn key_at<P: Pile>(&self, pile: &P, i: u8) -> KeyState<K>
-        ensures { key_told (viewed form lawful class index) result ≡ key_on_place (book_of (viewed form lawful class index) self.now).slots (place_rule (meaning pile.now) i) }
+        ensures { key_told (viewed K.form K.lawful K.class K.index) result ≡ key_on_place (book_of (viewed K.form K.lawful K.class K.index) self.now).slots (place_rule (P.meaning pile.now) i) }
     {
         match pile.place(i) {
             PlaceState::Held(tag) => self.key_of(tag),

@@ -11,7 +11,7 @@ use keys::Key;
 impl<K: Key> Record<K> {
     // Whether this is the record of a live key, and of the one with the same byte form.
     fn holds(self, key: &K) -> bool
-        ensures { result ≡ holds_form (form key.now) (slot_of (viewed form lawful class index) self) }
+        ensures { result ≡ holds_form (K.form key.now) (slot_of (viewed K.form K.lawful K.class K.index) self) }
     {
         match self {
             Record::Live(live) => live.same(key),
@@ -20,7 +20,7 @@ impl<K: Key> Record<K> {
     }
 
     fn is_free(self) -> bool
-        ensures { result ≡ is_free (slot_of (viewed form lawful class index) self) }
+        ensures { result ≡ is_free (slot_of (viewed K.form K.lawful K.class K.index) self) }
     {
         match self {
             Record::Live(_) => false,
@@ -41,7 +41,7 @@ impl<'a, K: Key> Roster<'a, K> {
     pub(crate) fn record_at(&self, i: u16) -> Record<K>
         requires { i < self.now.capacity }
         ensures value { result ≡ slice_index_or (take self.now.capacity self.now.records.now) i Free }
-        ensures slot { slot_of (viewed form lawful class index) result ≡ slice_index_or (book_of (viewed form lawful class index) self.now).slots i None }
+        ensures slot { slot_of (viewed K.form K.lawful K.class K.index) result ≡ slice_index_or (book_of (viewed K.form K.lawful K.class K.index) self.now).slots i None }
     {
         picked(self.records, usize::from(i))
     }
@@ -63,7 +63,7 @@ impl<'a, K: Key> Roster<'a, K> {
 
     // The tag of a live key.
     pub fn find(&self, key: &K) -> Option<u16>
-        ensures value { result ≡ tag_of (book_of (viewed form lawful class index) self.now).slots (viewed form lawful class index key.now) }
+        ensures value { result ≡ tag_of (book_of (viewed K.form K.lawful K.class K.index) self.now).slots (viewed K.form K.lawful K.class K.index key.now) }
         ensures within { IfSome result (λ tag. tag < self.now.capacity) }
     {
         if self.capacity == 0 {
@@ -81,9 +81,9 @@ impl<'a, K: Key> Roster<'a, K> {
 
     // The tag that a key would get.
     pub(crate) fn free(&self, key: &K) -> Option<u16>
-        ensures value { result ≡ free_tag (book_of (viewed form lawful class index) self.now).slots (viewed form lawful class index key.now) }
+        ensures value { result ≡ free_tag (book_of (viewed K.form K.lawful K.class K.index) self.now).slots (viewed K.form K.lawful K.class K.index key.now) }
         ensures within { IfSome result (λ tag. tag < self.now.capacity) }
-        ensures free { IfSome result (λ tag. slice_index_or (book_of (viewed form lawful class index) self.now).slots tag None ≡ None) }
+        ensures free { IfSome result (λ tag. slice_index_or (book_of (viewed K.form K.lawful K.class K.index) self.now).slots tag None ≡ None) }
     {
         if self.capacity == 0 {
             return None;
@@ -100,7 +100,7 @@ impl<'a, K: Key> Roster<'a, K> {
 
     // How many keys are live.
     pub fn live_count(&self) -> u16
-        ensures { result ≡ live_count (book_of (viewed form lawful class index) self.now).slots }
+        ensures { result ≡ live_count (book_of (viewed K.form K.lawful K.class K.index) self.now).slots }
     {
         let mut count = 0;
         for i in 0..self.capacity {

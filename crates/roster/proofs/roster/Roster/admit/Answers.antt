@@ -16,7 +16,7 @@ returns-in_err-tag g c =
     let view = viewed g.K.Key.form g.K.Key.lawful g.K.Key.class g.K.Key.index in
     let b = book_of view c.args.self.now in
     let m = g.P.Pile.meaning c.args.pile.now in
-    let came = err_from_is_err_and c.from-residual.result c.from-residual.ensures.1 in
+    let came = err_from_is_err_and c.from_residual.result c.from_residual.ensures.1 in
     let refused = c.in_err-tag.ensures (radix_rule m (view c.args.key).class) in
     record {
       answer = ap admit_told came.1 ∙ ap (λ f. admit_told (Err f)) came.2 ∙ sym (ap (λ (v : Verdict). (carried_out v (gives 0) b m).answer) refused);
