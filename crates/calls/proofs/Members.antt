@@ -1,6 +1,6 @@
 -- The live keys with their tags: who they are after an entry and after a leave, and that the slots hold just them.
 use Rattle.std.proofs.Common.{◌≡◌, ℕ, suc, Bool, true, false, cond, ◌||◌, eqb, List, [], ◌∷◌, length, get_or, set, Some, None, Option, sym, refl, ap, ◌∙◌, subst, ap₂, ⊎_elim}
-use Rattle.std.specs.List.{AllByRecursion as All}
+use Rattle.std.specs.List.{AllByRecursion}
 use Rattle.std.specs.Str.{bytes_eq}
 use Rattle.std.proofs.ByRecursion.{All-weaker}
 use Rattle.std.proofs.lemmas.Slice.Eq.{bytes_eq-Decides}
@@ -45,11 +45,11 @@ Differ x y = (y.tag ≡ x.tag → ⊥) × (y.key.form ≡ x.key.form → ⊥)
 
 abbrev pub Apart : List Member → Type 0
 Apart [] = Unit {0}
-Apart (x ∷ xs) = All (Differ x) xs × Apart xs
+Apart (x ∷ xs) = AllByRecursion (Differ x) xs × Apart xs
 
 -- the slots hold the members, each under its tag, and no one else
 pub record Seated (slots : List (Option KeyView)) (ms : List Member) : Type 0 where
-  pub sits : All (λ x. get_or slots x.tag None ≡ Some x.key) ms
+  pub sits : AllByRecursion (λ x. get_or slots x.tag None ≡ Some x.key) ms
   pub apart : Apart ms
   pub no_other : (tag : ℕ) (key : KeyView) → get_or slots tag None ≡ Some key → has (tags ms) tag ≡ true
 
@@ -97,7 +97,7 @@ pub data Off (x : Member) : (ms rest : List Member) → Type 0 where
   here : {ms : List Member} → Off x (x ∷ ms) ms
   later : {y : Member} {ms rest : List Member} → Off x ms rest → Off x (y ∷ ms) (y ∷ rest)
 
-pub off_all : (P : Member → Type 0) {x : Member} {ms rest : List Member} → Off x ms rest → All P ms → P x × All P rest
+pub off_all : (P : Member → Type 0) {x : Member} {ms rest : List Member} → Off x ms rest → AllByRecursion P ms → P x × AllByRecursion P rest
 off_all P here h = h
 off_all P (later o) h = let k = off_all P o h.1 in (k.0, (h.0, k.1))
 
@@ -105,7 +105,7 @@ differ_back : (x y : Member) → Differ x y → Differ y x
 differ_back x y d = (λ e. d.0 (sym e), λ e. d.1 (sym e))
 
 -- the one taken off differs from the rest
-off_apart : {x : Member} {ms rest : List Member} → Off x ms rest → Apart ms → All (Differ x) rest × Apart rest
+off_apart : {x : Member} {ms rest : List Member} → Off x ms rest → Apart ms → AllByRecursion (Differ x) rest × Apart rest
 off_apart here h = h
 off_apart {x} (later {y} o) h =
     let first = off_all (Differ y) o h.0 in
@@ -167,7 +167,7 @@ module _ (slots : List (Option KeyView)) (key : KeyView) (tag : ℕ) (held : get
   abbrev pub leaver : Member
   leaver = record { key = key; tag = tag }
 
-  seated_off : (ms : List Member) → All (λ x. get_or slots x.tag None ≡ Some x.key) ms → has (tags ms) tag ≡ true → Off leaver ms (all_but ms tag)
+  seated_off : (ms : List Member) → AllByRecursion (λ x. get_or slots x.tag None ≡ Some x.key) ms → has (tags ms) tag ≡ true → Off leaver ms (all_but ms tag)
   seated_off [] sits on = absurd (false≢true on)
   seated_off (x ∷ ms) sits on = by (eqb x.tag tag) refl on (seated_off ms sits.1)
     where
@@ -205,9 +205,9 @@ module _ (slots : List (Option KeyView)) (key : KeyView) (tag : ℕ) (held : get
       }
     where
       still :
-          (rest : List Member) → All (Differ leaver) rest →
-          All (λ x. get_or slots x.tag None ≡ Some x.key) rest →
-          All (λ x. get_or (set slots tag None) x.tag None ≡ Some x.key) rest
+          (rest : List Member) → AllByRecursion (Differ leaver) rest →
+          AllByRecursion (λ x. get_or slots x.tag None ≡ Some x.key) rest →
+          AllByRecursion (λ x. get_or (set slots tag None) x.tag None ≡ Some x.key) rest
       still [] d at = tt
       still (x ∷ rest) d at = (get_or-set_other slots tag x.tag None None d.0.0 ∙ at.0, still rest d.1 at.1)
 
@@ -245,11 +245,11 @@ pub length_forms : (ms : List Member) → length (forms ms) ≡ length (tags ms)
 length_forms [] = refl
 length_forms (x ∷ ms) = ap suc (length_forms ms)
 
-pub all_counted : (P : Member → Type 0) (counted : ℕ → Bool) (ms : List Member) → All P ms → All P (counted_among counted ms)
+pub all_counted : (P : Member → Type 0) (counted : ℕ → Bool) (ms : List Member) → AllByRecursion P ms → AllByRecursion P (counted_among counted ms)
 all_counted P counted [] h = tt
 all_counted P counted (x ∷ ms) h = by (counted x.key.class) (all_counted P counted ms h.1)
   where
-    by : (b : Bool) → All P (counted_among counted ms) → All P (cond b (x ∷ counted_among counted ms) (counted_among counted ms))
+    by : (b : Bool) → AllByRecursion P (counted_among counted ms) → AllByRecursion P (cond b (x ∷ counted_among counted ms) (counted_among counted ms))
     by true ih = (h.0, ih)
     by false ih = ih
 
@@ -264,7 +264,7 @@ apart_counted counted (x ∷ ms) h = by (counted x.key.class) (apart_counted cou
 -- the tag of a free slot is no member's
 pub tags_lack :
     (slots : List (Option KeyView)) (tag : ℕ) → get_or slots tag None ≡ None → (ms : List Member) →
-    All (λ x. get_or slots x.tag None ≡ Some x.key) ms → has (tags ms) tag ≡ false
+    AllByRecursion (λ x. get_or slots x.tag None ≡ Some x.key) ms → has (tags ms) tag ≡ false
 tags_lack slots tag free [] sits = refl
 tags_lack slots tag free (x ∷ ms) sits =
     ap₂ ◌||◌ (ne_eqb x.tag tag (λ e. none_some x.key (sym (ap (λ t. get_or slots t None) e ∙ free) ∙ sits.0)))

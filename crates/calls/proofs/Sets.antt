@@ -1,13 +1,13 @@
 -- Sets of keys, by form, against sets of tags: members have one tag and one form each, so the two are held alike.
 use Rattle.std.proofs.Common.{◌≡◌, ℕ, suc, true, ◌&&◌, ◌||◌, eqb, ◌⊎◌, List, [], ◌∷◌, length, get_or, Some, None, Option, sym, refl, ap, ◌∙◌, subst, ap₂, inl, inr, ⊎_elim}
-use Rattle.std.specs.List.{AllByRecursion as All}
+use Rattle.std.specs.List.{AllByRecursion}
 use Rattle.std.specs.Str.{bytes_eq}
 use Rattle.std.proofs.lemmas.Slice.Eq.{bytes_eq-Decides}
 use Rattle.std.proofs.lemmas.Bool.{eqb-true, eq-eqb, and_parts, and_from, or_cases, or_left, or_right, false≢true}
 use Rattle.std.proofs.lemmas.Bool.Decides.{same_from_decides, Decides-like, Decides-eqb}
 use Rattle.pile.specs.Answers.{Place}
 use Rattle.evenness.specs.Events.{has}
-use Rattle.evenness.specs.Tapes.{sample as tags-on, has_all, Distinct}
+use Rattle.evenness.specs.Tapes.{sample as tags_on, has_all, Distinct}
 use Rattle.calls.specs.Book.{KeyView, Book}
 use Rattle.calls.specs.Promise.{with_form, sample, has_form, has_forms, same_set, NoRepeats}
 use Rattle.calls.proofs.Members.{Member, tags, forms, Differ, Apart}
@@ -25,7 +25,7 @@ Matched ms (t ∷ ts) [] = ⊥
 Matched ms (t ∷ ts) (f ∷ fs) = Someone ms t f × Matched ms ts fs
 
 -- someone else has another tag and another form
-someone_else : (x : Member) (ms : List Member) (t : ℕ) (f : List ℕ) → All (Differ x) ms → Someone ms t f → (t ≡ x.tag → ⊥) × (f ≡ x.key.form → ⊥)
+someone_else : (x : Member) (ms : List Member) (t : ℕ) (f : List ℕ) → AllByRecursion (Differ x) ms → Someone ms t f → (t ≡ x.tag → ⊥) × (f ≡ x.key.form → ⊥)
 someone_else x [] t f d i = absurd i
 someone_else x (y ∷ ms) t f d (inl i) = (λ e. d.0.0 (i.0 ∙ e), λ e. d.0.1 (i.1 ∙ e))
 someone_else x (y ∷ ms) t f d (inr i) = someone_else x ms t f d.1 i
@@ -72,7 +72,7 @@ module _ (ms : List Member) (d : Apart ms) where
 
   others_differ :
       (t : ℕ) (f : List ℕ) (ts : List ℕ) (fs : List (List ℕ)) → Someone ms t f → Matched ms ts fs →
-      All (λ g. g ≡ f → ⊥) fs → All (λ u. u ≡ t → ⊥) ts
+      AllByRecursion (λ g. g ≡ f → ⊥) fs → AllByRecursion (λ u. u ≡ t → ⊥) ts
   others_differ t f [] [] i h k = tt
   others_differ t f [] (g ∷ fs) i h k = absurd h
   others_differ t f (u ∷ ts) [] i h k = absurd h
@@ -142,7 +142,7 @@ tags_for ms (f ∷ fs) h =
 
 module _ (slots : List (Option KeyView)) where
   someone_on :
-      (ms : List Member) (t : ℕ) → All (λ x. get_or slots x.tag None ≡ Some x.key) ms → has (tags ms) t ≡ true →
+      (ms : List Member) (t : ℕ) → AllByRecursion (λ x. get_or slots x.tag None ≡ Some x.key) ms → has (tags ms) t ≡ true →
       (key : KeyView) × (get_or slots t None ≡ Some key) × Someone ms t key.form
   someone_on [] t sits h = absurd (false≢true h)
   someone_on (x ∷ ms) t sits h =
@@ -153,12 +153,12 @@ module _ (slots : List (Option KeyView)) where
   -- the keys that stand are those of the tags that stand
   pub sample_matched :
       (ms : List Member) (b : Book) (ps : List Place) → b.slots ≡ slots →
-      All (λ x. get_or slots x.tag None ≡ Some x.key) ms → has_all (tags ms) (tags-on ps) ≡ true →
-      Matched ms (tags-on ps) (sample b ps)
+      AllByRecursion (λ x. get_or slots x.tag None ≡ Some x.key) ms → has_all (tags ms) (tags_on ps) ≡ true →
+      Matched ms (tags_on ps) (sample b ps)
   sample_matched ms b [] same sits h = tt
   sample_matched ms b (None ∷ ps) same sits h = sample_matched ms b ps same sits h
   sample_matched ms b (Some t ∷ ps) same sits h =
-      let parts = and_parts (has (tags ms) t) (has_all (tags ms) (tags-on ps)) h in
+      let parts = and_parts (has (tags ms) t) (has_all (tags ms) (tags_on ps)) h in
       let on = someone_on ms t sits parts.0 in
-      subst (λ (o : Option KeyView). Matched ms (t ∷ tags-on ps) (with_form o (sample b ps)))
+      subst (λ (o : Option KeyView). Matched ms (t ∷ tags_on ps) (with_form o (sample b ps)))
       (sym (ap (λ ss. get_or ss t None) same ∙ on.1)) (on.2, sample_matched ms b ps same sits parts.1)

@@ -5,7 +5,7 @@ use Rattle.pile.specs.declared.receipts.LeaveReceipt.{LeaveReceipt}
 use Rattle.pile.specs.Answers.{Told, refused, told}
 use Rattle.pile.specs.Meaning.{Meaning}
 use Rattle.pile.specs.Rules.{radix_rule, entry_rule, leave_rule}
-use Rattle.sources.specs.Answers.{Refusal, Answer as Source-answer, drew, refused as source-refused}
+use Rattle.sources.specs.Answers.{Refusal, Answer as SourceAnswer, drew, refused as source_refused}
 use Rattle.sources.specs.Courses.{Given, before, gives_by}
 use Rattle.calls.specs.Book.{OpenEntry, Book}
 use Rattle.calls.specs.Calls.{Call, admit, settle, withdraw, enter, leave, ask, Verdict, refuses, opens, settles, withdraws, lets_go, tells, verdict, admit_verdict}
@@ -18,17 +18,17 @@ use Rattle.calls.proofs.Under.{told_no_receipt}
 use Rattle.calls.proofs.Verdicts.{Right, admit_right, enter_right}
 
 -- a course that tells each answer from a state is steady
-pub steady_by : {X : Type 0} (answer : X → ℕ → Source-answer) (next : X → X) (x : X) → Steady (gives_by answer next x)
+pub steady_by : {X : Type 0} (answer : X → ℕ → SourceAnswer) (next : X → X) (x : X) → Steady (gives_by answer next x)
 steady_by answer next x [] more = refl
 steady_by answer next x (radix ∷ radices) more = by (answer x radix) (steady_by answer next (next x) radices more)
   where
     by :
-        (a : Source-answer) →
+        (a : SourceAnswer) →
         take (length radices) (gives_by answer next (next x) (radices ++ more)).draws ≡ (gives_by answer next (next x) radices).draws →
         take (suc (length radices)) (before a (gives_by answer next (next x) (radices ++ more))).draws
         ≡ (before a (gives_by answer next (next x) radices)).draws
     by (drew draw) ih = ap (λ draws. draw ∷ draws) ih
-    by (source-refused refusal) ih = refl
+    by (source_refused refusal) ih = refl
 
 rest_take : (n : ℕ) (xs : List ℕ) → rest_of_draws (take (suc n) xs) ≡ take n (rest_of_draws xs)
 rest_take zero [] = refl

@@ -159,12 +159,12 @@ leave_right : (b : Book) (m : Meaning) (key : KeyView) → Right b m (leave_lawf
 leave_right b m key = by key.lawful
   where
     by_counted :
-        (held : KeyView) (tag : ℕ) (counted leaves some-live : Bool) → b.entry ≡ None → get_or b.slots tag None ≡ Some held →
-        m.counted held.class ≡ counted → m.leaves ≡ leaves → ltb 0 m.live ≡ some-live →
-        Right b m (leave_counted counted leaves some-live held tag)
-    by_counted held tag false leaves some-live none at c l n =
+        (held : KeyView) (tag : ℕ) (counted leaves some_live : Bool) → b.entry ≡ None → get_or b.slots tag None ≡ Some held →
+        m.counted held.class ≡ counted → m.leaves ≡ leaves → ltb 0 m.live ≡ some_live →
+        Right b m (leave_counted counted leaves some_live held tag)
+    by_counted held tag false leaves some_live none at c l n =
         record { none_open = none; held = at; takes = λ yes'. absurd (false≢true (sym c ∙ yes')) }
-    by_counted held tag true false some-live none at c l n = tt
+    by_counted held tag true false some_live none at c l n = tt
     by_counted held tag true true false none at c l n = tt
     by_counted held tag true true true none at c l n =
         record { none_open = none; held = at; takes = λ yes'. (l, ltb-true 0 m.live n) }

@@ -102,9 +102,9 @@ enter_verdict (lets_go key tag) = lets_go key tag
 enter_verdict (tells question) = tells question
 
 -- Leave. Lawful? 6. No entry open? 7. Live? 13. Uncounted, or does the pile take leaves? 14. Uncounted, or is N above 0? 15.
-abbrev pub leave_counted : (counted leaves some-live : Bool) → KeyView → (tag : ℕ) → Verdict
-leave_counted false leaves some-live key tag = lets_go key tag
-leave_counted true false some-live key tag = refuses 14
+abbrev pub leave_counted : (counted leaves some_live : Bool) → KeyView → (tag : ℕ) → Verdict
+leave_counted false leaves some_live key tag = lets_go key tag
+leave_counted true false some_live key tag = refuses 14
 leave_counted true true false key tag = refuses 15
 leave_counted true true true key tag = lets_go key tag
 

@@ -8,17 +8,17 @@ use Rattle.calls.specs.Calls.{Verdict, refuses, opens, settles, withdraws, lets_
 use Rattle.calls.specs.Steps.{gives, fails}
 use Rattle.calls.specs.Lists.{Lot, next, instead, Listed, answers_under, book_under, pile_under, draws_in}
 use Rattle.calls.specs.Past.{Ledger, told_pile, note, counted_live}
-use Rattle.calls.specs.Promise.{sample, has_form, past_ledger, N, d, L, all_tapes, sample_under, tapes_giving, Counted-live-set, bare}
+use Rattle.calls.specs.Promise.{sample, has_form, past_ledger, N, d, L, all_tapes, sample_under, tapes_giving, CountedLiveSet, bare}
 
 -- Over all tapes: the shares.
 pub record ListShares (m : Meaning) (b : Book) (calls : List Listed) : Type 0 where
   -- any two sets of counted live keys of equal size are the sample under equally many tapes
   pub equal_shares :
-      (set other : List (List ℕ)) → Counted-live-set m b calls set → Counted-live-set m b calls other → length set ≡ length other →
+      (set other : List (List ℕ)) → CountedLiveSet m b calls set → CountedLiveSet m b calls other → length set ≡ length other →
       tapes_giving m b calls set ≡ tapes_giving m b calls other
   -- with a for its size, that number times choose(N+d, L) is the number of all tapes times choose(d, L-a)
   pub shares :
-      (set : List (List ℕ)) → Counted-live-set m b calls set →
+      (set : List (List ℕ)) → CountedLiveSet m b calls set →
       tapes_giving m b calls set * choose (N m b calls + d m b calls) (L m b calls)
       ≡ all_tapes m b calls * choose_less (d m b calls) (L m b calls) (length set)
   -- a set with a key that is not live and counted is the sample under no tape

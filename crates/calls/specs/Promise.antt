@@ -1,6 +1,6 @@
 -- The evenness promise, for a run of requests on a roster and a pile that were new.
 use Rattle.std.specs.Prelude.{◌≡◌, ℕ, ◌+◌, ◌*◌, min, Bool, true, false, ◌&&◌, ◌||◌, List, [], ◌∷◌, ◌++◌, map, length, Some, None, count_by, Option, ◌≢◌}
-use Rattle.std.specs.List.{AllByRecursion as All}
+use Rattle.std.specs.List.{AllByRecursion}
 use Rattle.std.specs.Str.{bytes_eq}
 use Rattle.pile.specs.declared.receipts.EntryReceipt.{EntryReceipt}
 use Rattle.pile.specs.Answers.{Place}
@@ -38,7 +38,7 @@ same_set forms others = has_forms forms others && has_forms others forms
 
 abbrev pub NoRepeats : List (List ℕ) → Type 0
 NoRepeats [] = Unit {0}
-NoRepeats (f ∷ fs) = All (λ g. g ≢ f) fs × NoRepeats fs
+NoRepeats (f ∷ fs) = AllByRecursion (λ g. g ≢ f) fs × NoRepeats fs
 
 -- What a list of calls comes to, on a roster and a pile that were new.
 module _ (m : Meaning) (b : Book) (calls : List Listed) where
@@ -71,7 +71,7 @@ module _ (m : Meaning) (b : Book) (calls : List Listed) where
   tapes_giving set = count_by (λ tape. same_set (sample_under tape) set) (tapes list_radices)
 
   -- a set of counted live keys
-  pub record Counted-live-set (set : List (List ℕ)) : Type 0 where
+  pub record CountedLiveSet (set : List (List ℕ)) : Type 0 where
     pub distinct : NoRepeats set
     pub among : has_forms (counted_live m past_ledger.past) set ≡ true
 
@@ -163,14 +163,14 @@ pub record Promise (start : World) (requests : List Request) (answers : List Ans
       let m = start.pile in
       let b = start.book in
       let calls = listed start requests in
-      (set other : List (List ℕ)) → Counted-live-set m b calls set → Counted-live-set m b calls other → length set ≡ length other →
+      (set other : List (List ℕ)) → CountedLiveSet m b calls set → CountedLiveSet m b calls other → length set ≡ length other →
       tapes_giving m b calls set ≡ tapes_giving m b calls other
   -- with a for its size, that number times choose(N+d, L) is the number of all tapes times choose(d, L-a)
   pub shares :
       let m = start.pile in
       let b = start.book in
       let calls = listed start requests in
-      (set : List (List ℕ)) → Counted-live-set m b calls set →
+      (set : List (List ℕ)) → CountedLiveSet m b calls set →
       tapes_giving m b calls set * choose (N m b calls + d m b calls) (L m b calls)
       ≡ all_tapes m b calls * choose_less (d m b calls) (L m b calls) (length set)
   -- a set with a key that is not live and counted is the sample under no tape

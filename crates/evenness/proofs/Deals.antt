@@ -1,6 +1,6 @@
 -- Deals: the sum of a function of the places over all ways to deal them from the live tags and d holes that are told apart.
 use Rattle.std.proofs.Common.{◌≡◌, ℕ, zero, suc, pred, ◌+◌, ◌*◌, cond, List, [], ◌∷◌, ◌++◌, length, take, Some, None, sym, refl, ap, ◌∙◌, ap₂, mul_assoc, suc-mul, add-mul, add_comm, one-mul, mul-zero, zero-mul, mul-add, mul_left_comm, arith}
-use Rattle.std.specs.List.{AllByRecursion as All}
+use Rattle.std.specs.List.{AllByRecursion}
 use Rattle.std.proofs.lemmas.Bool.{eq-eqb, ne_eqb}
 use Rattle.pile.specs.Answers.{Place}
 use Rattle.evenness.specs.Counting.{factorial}
@@ -82,7 +82,7 @@ deal_fill (suc n) x ts (suc d) g =
 
 -- x leaves a hole: it is a tag no more, and there is one hole more
 pub deal_vacate :
-    (n x : ℕ) (ts : List ℕ) (d : ℕ) (g : List Place → ℕ) → All (λ t. t ≡ x → ⊥) ts →
+    (n x : ℕ) (ts : List ℕ) (d : ℕ) (g : List Place → ℕ) → AllByRecursion (λ t. t ≡ x → ⊥) ts →
     deal n (x ∷ ts) d (λ ps. g (vacate x ps)) ≡ deal n ts (suc d) g
 deal_vacate zero x ts d g off = refl
 deal_vacate (suc n) x ts d g off =

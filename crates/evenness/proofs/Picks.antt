@@ -1,6 +1,6 @@
 -- Sums over one tag out of a list, with the list without it.
 use Rattle.std.proofs.Common.{◌≡◌, ℕ, suc, ◌+◌, ◌*◌, List, [], ◌∷◌, length, sym, refl, ap, ◌∙◌, ap₂, suc-mul, mul-zero, zero-mul, mul-add, arith}
-use Rattle.std.specs.List.{AllByRecursion as All}
+use Rattle.std.specs.List.{AllByRecursion}
 
 -- the sum of f over each tag of the list and the list without it
 abbrev pub picks : List ℕ → (ℕ → List ℕ → ℕ) → ℕ
@@ -16,7 +16,7 @@ pub off_length : {x : ℕ} {ts rest : List ℕ} → Off x ts rest → length ts 
 off_length here = refl
 off_length (later o) = ap suc (off_length o)
 
-pub off_all : (P : ℕ → Type 0) {x : ℕ} {ts rest : List ℕ} → Off x ts rest → All P ts → P x × All P rest
+pub off_all : (P : ℕ → Type 0) {x : ℕ} {ts rest : List ℕ} → Off x ts rest → AllByRecursion P ts → P x × AllByRecursion P rest
 off_all P here h = h
 off_all P (later o) h = let k = off_all P o h.1 in (k.0, (h.0, k.1))
 

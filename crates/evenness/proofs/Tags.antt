@@ -1,6 +1,6 @@
 -- Lists of tags: who is on them, how often, and what is left when one is taken off.
 use Rattle.std.proofs.Common.{◌≡◌, ℕ, ◌+◌, ◌-◌, ◌≤◌, Bool, true, false, cond, ◌&&◌, ◌||◌, eqb, ltb, List, [], ◌∷◌, length, sym, refl, ap, ◌∙◌, subst, ap₂, ⊎_elim, zero-add, arith}
-use Rattle.std.specs.List.{AllByRecursion as All}
+use Rattle.std.specs.List.{AllByRecursion}
 use Rattle.std.proofs.lemmas.Bool.{eq-eqb, ne_eqb, eqb-true, eqb-false, both_ways, or_parts, or_left, or_cases, and_parts, lt-ltb, le-ltb, ltb-false}
 use Rattle.std.proofs.lemmas.Bool.Decides.{nat_tests}
 use Rattle.std.proofs.ByRecursion.{All-weaker}
@@ -8,12 +8,12 @@ use Rattle.evenness.specs.Events.{has, without}
 use Rattle.evenness.specs.Tapes.{has_all, Distinct}
 use Rattle.evenness.proofs.Picks.{Off, here, later, off_all}
 
-pub all_any : (P : ℕ → Type 0) → ((t : ℕ) → P t) → (ts : List ℕ) → All P ts
+pub all_any : (P : ℕ → Type 0) → ((t : ℕ) → P t) → (ts : List ℕ) → AllByRecursion P ts
 all_any P f [] = tt
 all_any P f (t ∷ ts) = (f t, all_any P f ts)
 
 pub all_two :
-    (P Q R : ℕ → Type 0) → ((t : ℕ) → P t → Q t → R t) → (ts : List ℕ) → All P ts → All Q ts → All R ts
+    (P Q R : ℕ → Type 0) → ((t : ℕ) → P t → Q t → R t) → (ts : List ℕ) → AllByRecursion P ts → AllByRecursion Q ts → AllByRecursion R ts
 all_two P Q R f [] p q = tt
 all_two P Q R f (t ∷ ts) p q = (f t p.0 q.0, all_two P Q R f ts p.1 q.1)
 
@@ -22,7 +22,7 @@ abbrev pub count : (ℕ → Bool) → List ℕ → ℕ
 count p [] = 0
 count p (t ∷ ts) = cond (p t) 1 0 + count p ts
 
-pub count_same : (p q : ℕ → Bool) (ts : List ℕ) → All (λ t. p t ≡ q t) ts → count p ts ≡ count q ts
+pub count_same : (p q : ℕ → Bool) (ts : List ℕ) → AllByRecursion (λ t. p t ≡ q t) ts → count p ts ≡ count q ts
 count_same p q [] h = refl
 count_same p q (t ∷ ts) h = ap₂ ◌+◌ (ap (λ b. cond b 1 0) h.0) (count_same p q ts h.1)
 
@@ -30,7 +30,7 @@ pub off_count : (p : ℕ → Bool) {x : ℕ} {ts rest : List ℕ} → Off x ts r
 off_count p here = refl
 off_count p (later o) = omega (arith, off_count p o)
 
-pub off_distinct : {x : ℕ} {ts rest : List ℕ} → Off x ts rest → Distinct ts → All (λ u. u ≡ x → ⊥) rest × Distinct rest
+pub off_distinct : {x : ℕ} {ts rest : List ℕ} → Off x ts rest → Distinct ts → AllByRecursion (λ u. u ≡ x → ⊥) rest × Distinct rest
 off_distinct here h = h
 off_distinct {x} (later {t} o) h =
     let first = off_all (λ u. u ≡ t → ⊥) o h.0 in
@@ -48,7 +48,7 @@ has_off (t ∷ ts) x h = go (eqb t x) refl h (has_off ts x)
     go true e h further = subst (λ (y : ℕ). Off y (t ∷ ts) ts) (eqb-true t x e) here
     go false e h further = later (further h)
 
-pub not_on : (ts : List ℕ) (x : ℕ) → has ts x ≡ false → All (λ u. u ≡ x → ⊥) ts
+pub not_on : (ts : List ℕ) (x : ℕ) → has ts x ≡ false → AllByRecursion (λ u. u ≡ x → ⊥) ts
 not_on [] x h = tt
 not_on (t ∷ ts) x h =
     let parts = or_parts (eqb t x) (has ts x) h in
@@ -67,7 +67,7 @@ has_without (t ∷ ts) x u ne = go (eqb t x) refl (has_without ts x u ne)
     go false e further = ap (λ b. eqb t u || b) further
 
 -- a list that needs x is met by x and the others exactly if the others meet what else it needs
-pub has_all_not_on : (ts others : List ℕ) (x : ℕ) → All (λ u. u ≡ x → ⊥) others → has_all (x ∷ ts) others ≡ has_all ts others
+pub has_all_not_on : (ts others : List ℕ) (x : ℕ) → AllByRecursion (λ u. u ≡ x → ⊥) others → has_all (x ∷ ts) others ≡ has_all ts others
 has_all_not_on ts [] x off = refl
 has_all_not_on ts (u ∷ us) x off =
     ap₂ ◌&&◌ (ap (λ b. b || has ts u) (ne_eqb x u (λ e. off.0 (sym e)))) (has_all_not_on ts us x off.1)
@@ -85,7 +85,7 @@ has_all_has ts (u ∷ us) x all on =
     ⊎_elim (λ e. subst (λ (y : ℕ). has ts y ≡ true) (eqb-true u x e) parts.0) (λ later. has_all_has ts us x parts.1 later)
     (or_cases (eqb u x) (has us x) on)
 
-pub not_has : (ts : List ℕ) (x : ℕ) → All (λ u. u ≡ x → ⊥) ts → has ts x ≡ false
+pub not_has : (ts : List ℕ) (x : ℕ) → AllByRecursion (λ u. u ≡ x → ⊥) ts → has ts x ≡ false
 not_has [] x off = refl
 not_has (t ∷ ts) x off = ap₂ ◌||◌ (ne_eqb t x off.0) (not_has ts x off.1)
 
@@ -135,7 +135,7 @@ distinct_times (t ∷ ts) d u = go (eqb t u) refl (distinct_times ts d.1 u)
   where
     go : (b : Bool) → eqb t u ≡ b → times_on ts u ≤ 1 → cond b 1 0 + times_on ts u ≤ 1
     go true e h =
-        let off = not_has ts u (subst (λ (x : ℕ). All (λ v. v ≡ x → ⊥) ts) (eqb-true t u e) d.0) in
+        let off = not_has ts u (subst (λ (x : ℕ). AllByRecursion (λ v. v ≡ x → ⊥) ts) (eqb-true t u e) d.0) in
         omega (arith, ltb-false 0 (times_on ts u) (sym (has_times ts u) ∙ off))
     go false e h = omega arith
 

@@ -2,7 +2,7 @@
 use Rattle.std.proofs.Common.{◌≡◌, ℕ, zero, suc, ◌+◌, ◌*◌, ◌<◌, Bool, true, false, cond, ◌&&◌, eqb, ltb, List, [], ◌∷◌, ◌++◌, map, length, sum_by, sym, refl, ap, ◌∙◌, subst, ap₂, add-zero, suc-mul, mul-zero, zero-add, zero-mul, mul-add, arith}
 use mathlib.Core.Path.{fun_ext}
 use lib.Dec.{eqb-zero-suc, eqb-suc-zero, eqb-suc-suc, leb-suc-zero, leb-suc-suc}
-use Rattle.std.specs.List.{flat_map, AllByRecursion as All}
+use Rattle.std.specs.List.{flat_map, AllByRecursion}
 use Rattle.std.proofs.ByRecursion.{All-append, All-map, All-weaker}
 use Rattle.std.proofs.lemmas.List.Sums.{sum_by-cons}
 use Rattle.std.proofs.lemmas.Bool.{lt-ltb, ltb-true, cond_both}
@@ -52,7 +52,7 @@ pub length_total : {X : Type 0} (xs : List X) → length xs ≡ total (λ x. 1) 
 length_total [] = refl
 length_total (x ∷ xs) = omega (arith, length_total xs)
 
-pub total_same : {X : Type 0} (P : X → Type 0) (f g : X → ℕ) → ((x : X) → P x → f x ≡ g x) → (xs : List X) → All P xs → total f xs ≡ total g xs
+pub total_same : {X : Type 0} (P : X → Type 0) (f g : X → ℕ) → ((x : X) → P x → f x ≡ g x) → (xs : List X) → AllByRecursion P xs → total f xs ≡ total g xs
 total_same P f g h [] all = refl
 total_same P f g h (x ∷ xs) all = ap₂ ◌+◌ (h x all.0) (total_same P f g h xs all.1)
 
@@ -88,14 +88,14 @@ total_tapes f radix rs =
     ∙ sum_below_same radix _ _ (λ draw. total_map f (λ tape. draw ∷ tape) (tapes rs))
 
 all_joined_below :
-    {X : Type 0} (P : X → Type 0) (n : ℕ) (h : ℕ → List X) → ((r : ℕ) → r < n → All P (h r)) → All P (flat_map h (below n))
+    {X : Type 0} (P : X → Type 0) (n : ℕ) (h : ℕ → List X) → ((r : ℕ) → r < n → AllByRecursion P (h r)) → AllByRecursion P (flat_map h (below n))
 all_joined_below P zero h each = tt
 all_joined_below P (suc n) h each =
     All-append P (h 0) (flat_map h (map suc (below n))) (each 0 (omega arith))
-    (subst (All P) (sym (joined_map h suc (below n))) (all_joined_below P n (λ r. h (suc r)) (λ r l. each (suc r) (omega arith))))
+    (subst (AllByRecursion P) (sym (joined_map h suc (below n))) (all_joined_below P n (λ r. h (suc r)) (λ r l. each (suc r) (omega arith))))
 
 -- what is listed is a tape
-pub all_tapes : (rs : List ℕ) → All (Tape rs) (tapes rs)
+pub all_tapes : (rs : List ℕ) → AllByRecursion (Tape rs) (tapes rs)
 all_tapes [] = (tt, tt)
 all_tapes (radix ∷ rs) =
     all_joined_below (Tape (radix ∷ rs)) radix (λ draw. map (λ tape. draw ∷ tape) (tapes rs))

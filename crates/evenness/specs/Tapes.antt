@@ -1,6 +1,6 @@
 -- Tapes of draws, the sample under a tape, and how many tapes give a sample.
 use Rattle.std.specs.Prelude.{◌≡◌, ℕ, zero, suc, ◌<◌, Bool, true, false, ◌&&◌, List, [], ◌∷◌, map, length, Some, None, count_by, ◌==◌, ◌≢◌}
-use Rattle.std.specs.List.{AllZip, flat_map, AllByRecursion as All}
+use Rattle.std.specs.List.{AllZip, flat_map, AllByRecursion}
 use Rattle.pile.specs.Answers.{Place}
 use Rattle.pile.specs.Meaning.{Meaning}
 use Rattle.pile.specs.Rules.{entry_rule, leave_rule}
@@ -45,7 +45,7 @@ hold ps set = has_all (sample ps) set && has_all set (sample ps)
 -- a list without repetition
 abbrev pub Distinct : List ℕ → Type 0
 Distinct [] = Unit {0}
-Distinct (t ∷ ts) = All (λ u. u ≢ t) ts × Distinct ts
+Distinct (t ∷ ts) = AllByRecursion (λ u. u ≢ t) ts × Distinct ts
 
 -- a set of tags, all of which are on the list
 pub record SetOf (ts set : List ℕ) : Type 0 where

@@ -2,7 +2,7 @@
 use Rattle.std.proofs.Common.{◌≡◌, ℕ, zero, suc, ◌+◌, ◌-◌, ◌<◌, ◌≤◌, Bool, true, false, List, [], ◌∷◌, ◌++◌, length, take, drop, set, Option, sym, refl, ap, ◌∙◌, append_assoc, append-nil, arith}
 use Rattle.std.proofs.lemmas.List.{drop_all, drop_at, drop-drop, drop-set-lt, length-set, length-take-le, take-append-drop, take_more_set}
 use Rattle.std.proofs.lemmas.Bool.{leb-true}
-use Rattle.std.specs.List.{flat_map, AllByRecursion as All}
+use Rattle.std.specs.List.{flat_map, AllByRecursion}
 use Rattle.keys.specs.Answers.{Reading, read, refused, left_after}
 use Rattle.keys.specs.Bytes.{fits, buffer_if, put_buffer, put_from}
 use Rattle.keys.specs.Sequences.{keys_after, keys_in}
@@ -23,7 +23,7 @@ module _ {K : Type 0} (form : K → List ℕ) (lawful : K → Bool) (reading : L
       ∙ ap (drop (length (form k))) (put_from_is (form k) buffer at room)
       ∙ drop_at (form k) _ (length (form k)) refl
 
-  pub keys_read_back : (keys : List K) (rest : List ℕ) → All (λ k. lawful k ≡ true) keys → keys_in form reading (length keys) (flat_map form keys ++ rest) ≡ keys
+  pub keys_read_back : (keys : List K) (rest : List ℕ) → AllByRecursion (λ k. lawful k ≡ true) keys → keys_in form reading (length keys) (flat_map form keys ++ rest) ≡ keys
   keys_read_back [] rest l = refl
   keys_read_back (k ∷ ks) rest l =
       let later = flat_map form ks ++ rest in
@@ -34,7 +34,7 @@ module _ {K : Type 0} (form : K → List ℕ) (lawful : K → Bool) (reading : L
       ∙ ap (λ t. k ∷ t) (keys_read_back ks rest l.1)
 
   -- so memory that is filled with what was read holds the keys
-  pub filled_back : (keys : List K) (rest bytes : List ℕ) (old now : List K) (count : ℕ) → All (λ k. lawful k ≡ true) keys → length keys ≡ length old → bytes ≡ flat_map form keys ++ rest → count ≡ length (keys_in form reading (length old) bytes) → now ≡ keys_in form reading (length old) bytes ++ drop count old → now ≡ keys
+  pub filled_back : (keys : List K) (rest bytes : List ℕ) (old now : List K) (count : ℕ) → AllByRecursion (λ k. lawful k ≡ true) keys → length keys ≡ length old → bytes ≡ flat_map form keys ++ rest → count ≡ length (keys_in form reading (length old) bytes) → now ≡ keys_in form reading (length old) bytes ++ drop count old → now ≡ keys
   filled_back keys rest bytes old now count l size from counted after =
       let all : keys_in form reading (length old) bytes ≡ keys =
       ap (keys_in form reading (length old)) from

@@ -1,10 +1,10 @@
 -- Bytes, and what a buffer holds after some were put into it.
 use Rattle.std.specs.Prelude.{ℕ, ◌+◌, ◌<◌, Bool, true, false, List, ◌++◌, length, take, drop, Some, None, Option, nat_le}
-use Rattle.std.specs.List.{AllByRecursion as All}
+use Rattle.std.specs.List.{AllByRecursion}
 
 -- each number of the list is a byte
 abbrev pub Bytes : List ℕ → Type 0
-Bytes bs = All (λ b. b < 256) bs
+Bytes bs = AllByRecursion (λ b. b < 256) bs
 
 -- do the bytes fit into the buffer from the offset on?
 abbrev pub fits : (bytes buffer : List ℕ) (at : ℕ) → Bool

@@ -11,7 +11,7 @@ use Rattle.std.proofs.lemmas.Slice.Eq.{bytes_eq-Decides}
 use Rattle.std.proofs.lemmas.Bool.Decides.{same_from_decides, Decides-like}
 use Rattle.std.proofs.ByRecursion.{IsAscii-from_all, All-weaker}
 use Rattle.std.proofs.lemmas.Str.{IsUtf8-from_ascii}
-use Rattle.std.specs.List.{AllByRecursion as All}
+use Rattle.std.specs.List.{AllByRecursion}
 use Rattle.std.specs.Str.{bytes_eq}
 use Rattle.keys.specs.Answers.{Reading, read, refused, too_short}
 use Rattle.keys.specs.Bytes.{Bytes}
@@ -84,14 +84,14 @@ name_back n rest l =
     ∙ named_text n
 
 -- the bytes of a text are ASCII
-all_ascii : (text : List ℕ) → lawful_bytes text ≡ true → All (λ b. b < 128) text
+all_ascii : (text : List ℕ) → lawful_bytes text ≡ true → AllByRecursion (λ b. b < 128) text
 all_ascii [] l = tt
 all_ascii (b ∷ bs) l =
     let p = and_parts (lawful_byte b) (lawful_bytes bs) l in
     let high : b ≤ 126 = leb-true b 126 (and_parts (nat_le 33 b) (nat_le b 126) p.0).1 in
     (omega arith, all_ascii bs p.1)
 
-text_ascii : (n : Name) → All (λ b. b < 128) (name_text n)
+text_ascii : (n : Name) → AllByRecursion (λ b. b < 128) (name_text n)
 text_ascii n = all_ascii (name_text n) (and_parts (lawful_length (length (name_text n))) (lawful_bytes (name_text n)) n.lawful).1
 
 pub utf8_text : (n : Name) → IsUtf8 (name_text n)

@@ -1,6 +1,6 @@
 // Keys of any kind one after another.
 ghost use Rattle.std.specs.Prelude.{◌≡◌, ℕ, true, List, ◌++◌, length, drop};
-ghost use Rattle.std.specs.List.{flat_map, AllByRecursion as All};
+ghost use Rattle.std.specs.List.{flat_map, AllByRecursion};
 ghost use Rattle.keys.specs.Sequences.{keys_in};
 
 use crate::key::Key;
@@ -10,7 +10,7 @@ use crate::key::Key;
 pub fn read_keys<K: Key>(bytes: &[u8], into: &mut [K]) -> usize
     ensures count { result ≡ length (keys_in K.form K.reading (length into.old) bytes.now) }
     ensures after { into.new ≡ keys_in K.form K.reading (length into.old) bytes.now ++ drop result into.old }
-    ensures back { (keys : List K) (rest : List ℕ) → All (λ k. K.lawful k ≡ true) keys → length keys ≡ length into.old → bytes.now ≡ flat_map K.form keys ++ rest → into.new ≡ keys }
+    ensures back { (keys : List K) (rest : List ℕ) → AllByRecursion (λ k. K.lawful k ≡ true) keys → length keys ≡ length into.old → bytes.now ≡ flat_map K.form keys ++ rest → into.new ≡ keys }
 {
     let mut left = bytes;
     let mut count = 0;

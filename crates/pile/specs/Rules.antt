@@ -91,7 +91,7 @@ abbrev pub receipt : (radix draw : ℕ) → Option ℕ → EntryReceipt
 receipt radix draw place = record { radix = radix; draw = draw; place = place }
 
 -- Entry, once its radix is known: the draw has to be below it, and an uncounted class alters nothing.
-abbrev pub entry_counted : (paired-up : Bool) → Meaning → (radix tag draw : ℕ) → Step EntryReceipt
+abbrev pub entry_counted : (paired_up : Bool) → Meaning → (radix tag draw : ℕ) → Step EntryReceipt
 entry_counted true m radix tag draw =
     record { answer = told (receipt radix draw (drawn_place (nat_lt draw m.bound) draw)); after = joined m tag draw }
 entry_counted false m radix tag draw =
@@ -121,9 +121,9 @@ vacated m tag =
       places = put m.places (tag_place m.places tag) None;
     }
 
-abbrev pub leave_when : (counted leaves some-live : Bool) → Meaning → (tag : ℕ) → Step LeaveReceipt
-leave_when false leaves some-live m tag = record { answer = told (record { place = None }); after = m }
-leave_when true false some-live m tag = record { answer = refused 14; after = m }
+abbrev pub leave_when : (counted leaves some_live : Bool) → Meaning → (tag : ℕ) → Step LeaveReceipt
+leave_when false leaves some_live m tag = record { answer = told (record { place = None }); after = m }
+leave_when true false some_live m tag = record { answer = refused 14; after = m }
 leave_when true true false m tag = record { answer = refused 15; after = m }
 leave_when true true true m tag =
     record { answer = told (record { place = tag_place m.places tag }); after = vacated m tag }
