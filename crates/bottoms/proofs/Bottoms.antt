@@ -1,5 +1,5 @@
 -- A bottom's invariant is that its meaning is sound.
-use Rattle.std.proofs.Common.{◌≡◌, ℕ, ◌+◌, ◌<◌, ◌≤◌, min, Bool, true, false, leb, [], length, sym, refl, ap, ◌∙◌, subst, arith}
+use Rattle.std.proofs.Common.{◌≡◌, ℕ, ◌+◌, ◌≤◌, min, Bool, true, false, leb, [], length, sym, refl, ap, ◌∙◌, subst, arith}
 use Rattle.std.proofs.lemmas.Bool.{ltb-true, leb-true, and_parts}
 use Rattle.bottoms.specs.Bottoms.{bottom, paired_meaning, entries_only_meaning, opened}
 use Rattle.pile.specs.Opening.{one_to_64, or_one, taken_size}

@@ -1,11 +1,10 @@
 -- Refused calls and questions make no difference, wherever they stand in a list.
-use Rattle.std.specs.Prelude.{◌≡◌, ℕ, List, [], ◌∷◌, ◌++◌}
+use Rattle.std.specs.Prelude.{◌≡◌, ℕ, List, ◌∷◌, ◌++◌}
 use Rattle.pile.specs.Meaning.{Meaning}
-use Rattle.evenness.specs.Tapes.{Tape}
 use Rattle.calls.specs.Book.{Book}
 use Rattle.calls.specs.Calls.{Verdict, refuses, opens, settles, withdraws, lets_go, tells, verdict}
-use Rattle.calls.specs.Lists.{Lot, next, instead, Listed, book_under, pile_under}
-use Rattle.calls.specs.Past.{Ledger, ledger, told_pile}
+use Rattle.calls.specs.Lists.{Lot, next, instead, Listed}
+use Rattle.calls.specs.Past.{Ledger, told_pile}
 use Rattle.calls.specs.Promise.{N, d, list_radices, sample_under, tapes_giving}
 
 -- the call is refused, or only asks

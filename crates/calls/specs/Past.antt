@@ -1,10 +1,10 @@
 -- What has happened, worked out from the list of calls alone: no draw and no place is looked at.
-use Rattle.std.specs.Prelude.{ℕ, Bool, true, false, cond, List, [], ◌∷◌, ◌++◌, length}
+use Rattle.std.specs.Prelude.{ℕ, Bool, cond, List, [], ◌∷◌, ◌++◌, length}
 use Rattle.std.specs.Str.{bytes_eq}
 use Rattle.pile.specs.Meaning.{Meaning}
 use Rattle.evenness.specs.Events.{Event, came, went, unpaired_count, radices as radices_of}
 use Rattle.calls.specs.Book.{KeyView, OpenEntry, Book}
-use Rattle.calls.specs.Calls.{Call, Verdict, refuses, opens, settles, withdraws, lets_go, tells, verdict}
+use Rattle.calls.specs.Calls.{Verdict, refuses, opens, settles, withdraws, lets_go, tells, verdict}
 use Rattle.calls.specs.Steps.{opened, closed, settled, gone}
 use Rattle.calls.specs.Lists.{Lot, next, instead, Listed}
 

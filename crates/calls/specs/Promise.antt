@@ -11,7 +11,7 @@ use Rattle.sources.specs.Courses.{Given}
 use Rattle.calls.specs.Book.{KeyView, Book, new_book}
 use Rattle.calls.specs.Calls.{Call, settle, enter, admit, withdraw, leave, ask}
 use Rattle.calls.specs.Steps.{Answer, refusal, source_refusal, slip, entered, withdrawn, left, place_is, counts_are, radix_is, live_is, so_many, open_is, key_is, receipt_in, key_on}
-use Rattle.calls.specs.Runs.{Request, World, run_answers, run_world}
+use Rattle.calls.specs.Runs.{Request, World}
 use Rattle.calls.specs.Lists.{Listed, listed, answers_under, book_under, pile_under, draws_in}
 use Rattle.calls.specs.Past.{Ledger, ledger, counted_live, events, number_live, number_unpaired, radices}
 

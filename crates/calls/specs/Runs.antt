@@ -4,7 +4,7 @@ use Rattle.pile.specs.declared.receipts.EntryReceipt.{EntryReceipt}
 use Rattle.pile.specs.Meaning.{Meaning}
 use Rattle.sources.specs.Answers.{Refusal}
 use Rattle.sources.specs.Courses.{Given}
-use Rattle.calls.specs.Book.{OpenEntry, Book}
+use Rattle.calls.specs.Book.{Book}
 use Rattle.calls.specs.Calls.{Call, admit, settle, withdraw, enter, leave, ask, Verdict, refuses, opens, settles, withdraws, lets_go, tells, verdict}
 use Rattle.calls.specs.Steps.{Answer, receipt_in, Supply, gives, fails, Step, carried_out}
 

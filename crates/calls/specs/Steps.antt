@@ -1,12 +1,12 @@
 -- What each call answers, and what roster and pile mean afterwards.
-use Rattle.std.specs.Prelude.{ℕ, Bool, true, false, not, List, [], ◌∷◌, length, is_some, Some, None, Option, nat_lt, slice_index_or, slice_set}
+use Rattle.std.specs.Prelude.{ℕ, Bool, true, false, List, is_some, Some, None, Option, nat_lt, slice_index_or, slice_set}
 use Rattle.pile.specs.declared.receipts.EntryReceipt.{EntryReceipt}
 use Rattle.pile.specs.declared.receipts.LeaveReceipt.{LeaveReceipt}
 use Rattle.pile.specs.Answers.{Told, refused, told, Place}
 use Rattle.pile.specs.Meaning.{Meaning}
 use Rattle.pile.specs.Rules.{radix_rule, entry_rule, leave_rule, place_rule, counts_rule}
 use Rattle.calls.specs.Book.{KeyView, OpenEntry, Book, live_count, tag_of}
-use Rattle.calls.specs.Calls.{Call, admit, settle, withdraw, enter, leave, ask, Question, what_place, what_counts, what_radix, is_live, how_many_live, what_entry, what_key, Verdict, refuses, opens, settles, withdraws, lets_go, tells, verdict}
+use Rattle.calls.specs.Calls.{Call, Question, what_place, what_counts, what_radix, is_live, how_many_live, what_entry, what_key, Verdict, refuses, opens, settles, withdraws, lets_go, tells, verdict}
 
 pub data Answer : Type 0 where
   refusal : (number : ℕ) → Answer

@@ -1,5 +1,5 @@
 -- Factorials, falling factorials and binomial numbers: the laws that link them.
-use Rattle.std.proofs.Common.{◌≡◌, ℕ, zero, suc, pred, ◌+◌, ◌-◌, ◌*◌, ◌<◌, ◌≤◌, refl, ap, ◌∙◌, mul_assoc, suc-mul, mul_comm, mul-pos, one-mul, mul-zero, zero-mul, mul-add, arith}
+use Rattle.std.proofs.Common.{◌≡◌, ℕ, zero, suc, pred, ◌+◌, ◌*◌, ◌<◌, ◌≤◌, refl, ap, ◌∙◌, mul_assoc, suc-mul, mul_comm, mul-pos, one-mul, mul-zero, zero-mul, mul-add, arith}
 use native.Mathlib.Nat.{sub-zero, suc-sub-suc}
 use lib.Dec.{leb-zero, leb-suc-zero, leb-suc-suc}
 use Rattle.evenness.specs.Counting.{choose, choose_less, factorial, falling}

@@ -1,5 +1,5 @@
 -- The laws, from the general identity.
-use Rattle.std.proofs.Common.{◌≡◌, ℕ, zero, suc, ◌+◌, ◌-◌, ◌*◌, ◌<◌, ◌≤◌, min, Bool, true, false, cond, List, [], ◌∷◌, length, take, sym, refl, ap, ◌∙◌, subst, ap₂, ⊎_elim, mul-pos, arith, length-take}
+use Rattle.std.proofs.Common.{◌≡◌, ℕ, zero, suc, ◌+◌, ◌*◌, ◌<◌, ◌≤◌, min, Bool, true, false, cond, List, [], ◌∷◌, length, take, sym, refl, ap, ◌∙◌, subst, ap₂, ⊎_elim, mul-pos, arith, length-take}
 use native.Mathlib.Nat.{eq_of_mul-eq-mul_right}
 use Rattle.std.proofs.lemmas.Bool.{and_from, and_left, lt-ltb, both_ways, cases_Bool, eq-eqb}
 use Rattle.pile.specs.Meaning.{Meaning, New}

@@ -1,10 +1,10 @@
 -- Keys one after another, for every kind.
-use Rattle.std.proofs.Common.{◌≡◌, ℕ, zero, suc, ◌+◌, ◌-◌, ◌<◌, ◌≤◌, Bool, true, false, List, [], ◌∷◌, ◌++◌, length, take, drop, set, Option, sym, refl, ap, ◌∙◌, append_assoc, append-nil, arith}
+use Rattle.std.proofs.Common.{◌≡◌, ℕ, zero, suc, ◌+◌, ◌-◌, ◌<◌, ◌≤◌, Bool, true, List, [], ◌∷◌, ◌++◌, length, take, drop, set, Option, sym, refl, ap, ◌∙◌, append_assoc, append-nil, arith}
 use Rattle.std.proofs.lemmas.List.{drop_all, drop_at, drop-drop, drop-set-lt, length-set, length-take-le, take-append-drop, take_more_set}
 use Rattle.std.proofs.lemmas.Bool.{leb-true}
 use Rattle.std.specs.List.{flat_map, AllByRecursion}
 use Rattle.keys.specs.Answers.{Reading, read, refused, left_after}
-use Rattle.keys.specs.Bytes.{fits, buffer_if, put_buffer, put_from}
+use Rattle.keys.specs.Bytes.{fits, buffer_if, put_from}
 use Rattle.keys.specs.Sequences.{keys_after, keys_in}
 
 pub put_from_is : (bytes buffer : List ℕ) (at : ℕ) → fits bytes buffer at ≡ true → put_from bytes buffer at ≡ bytes ++ drop (at + length bytes) buffer

@@ -1,5 +1,5 @@
 -- Names: equal texts are equal names, and the laws of names as keys.
-use Rattle.std.specs.Prelude.{◌≡◌, ℕ, ◌+◌, ◌-◌, ◌<◌, ◌≤◌, Bool, true, false, ◌&&◌, leb, List, [], ◌∷◌, ◌++◌, length, take, drop, replicate, IsUtf8, Decides, nat_le, slice_index, refl}
+use Rattle.std.specs.Prelude.{◌≡◌, ℕ, ◌-◌, ◌<◌, ◌≤◌, Bool, true, false, leb, List, [], ◌∷◌, ◌++◌, length, take, drop, replicate, IsUtf8, Decides, nat_le, slice_index, refl}
 use Rattle.std.proofs.Common.{sym, ap, ◌∙◌, arith}
 use Rattle.std.proofs.Math.Bool.{Bool-set}
 use mathlib.Core.HLevel.{is_prop→PathP}
@@ -13,7 +13,7 @@ use Rattle.std.proofs.ByRecursion.{IsAscii-from_all, All-weaker}
 use Rattle.std.proofs.lemmas.Str.{IsUtf8-from_ascii}
 use Rattle.std.specs.List.{AllByRecursion}
 use Rattle.std.specs.Str.{bytes_eq}
-use Rattle.keys.specs.Answers.{Reading, read, refused, too_short}
+use Rattle.keys.specs.Answers.{read}
 use Rattle.keys.specs.Bytes.{Bytes}
 use Rattle.keys.specs.Names.{name_text, name_form, lawful_name, name_of, named_if, named, text_of_padded, name_reading, name_reading_when}
 use Rattle.keys.specs.Texts.{lawful_length, lawful_byte, lawful_bytes, lawful_text, padded_text}

@@ -24,7 +24,7 @@ fn names(rt: HostRuntime) -> Result<(), Fail> {
     let name = Name::read(bytes)?;
     assert_eq!(rt; name.class(), 4);
     assert_eq!(rt; name.as_str(), "a~");
-    assert_eq!(rt; Name::rest(bytes), b"rest");
+    assert_eq!(rt; Name::rest(bytes), b"rest".as_slice());
     assert!(rt; matches!(Name::read(b"\x09"), Err(KeyFault::Unlawful)));
     assert!(rt; matches!(Name::read(b"\x02\x20"), Err(KeyFault::Short)));
     assert!(rt; matches!(Name::read(b"\x02a\x20"), Err(KeyFault::Unlawful)));

@@ -1,7 +1,7 @@
 -- The first places of a pile change as the places of a pile with the lesser bound.
-use Rattle.std.specs.Prelude.{◌≡◌, ℕ, zero, suc, ◌+◌, ◌-◌, ◌<◌, ◌≤◌, min, Bool, true, false, ◌⊎◌, List, [], ◌∷◌, ◌++◌, length, take, Some, None, Option, Result, ◌==◌, ◌≢◌, nat_lt, slice_index_or, slice_set}
+use Rattle.std.specs.Prelude.{◌≡◌, ℕ, zero, suc, ◌+◌, ◌-◌, ◌<◌, ◌≤◌, min, Bool, true, false, ◌⊎◌, List, [], ◌∷◌, ◌++◌, length, take, Some, None, Option, ◌==◌, ◌≢◌, nat_lt, slice_index_or, slice_set}
 use Rattle.std.proofs.Math.Path.{refl, ap}
-use Rattle.std.proofs.Common.{sym, ◌∙◌, subst, arith, add-one, length-set, length-append, length-take, take_all, get_or-take, inl, inr}
+use Rattle.std.proofs.Common.{sym, ◌∙◌, subst, arith, add-one, length-set, length-append, length-take, take_all, inl, inr}
 use Rattle.std.proofs.Math.Seq.{take-set-lt}
 use Rattle.std.proofs.lemmas.List.{take-set-le, take-append-le}
 use Rattle.std.specs.List.{slice_get}
@@ -14,7 +14,7 @@ use Rattle.pile.specs.declared.receipts.PlaceState.{PlaceState}
 use Rattle.pile.specs.declared.receipts.PlaceState.TheVariants.{Held, Hole, NoSuchPlace}
 use Rattle.layers.specs.Layers.{fronted, shown_place, shown_when}
 use Rattle.pile.specs.Meaning.{Meaning, New, Sound, holes, standing}
-use Rattle.pile.specs.Rules.{Step, further, hole_place, holds_tag, tag_place, tag_place_when, put, drawn_place, drawn_places, receipt, joined, paired, vacated, radix_rule, radix_when, entry_rule, entry_asked, entry_drawn, entry_counted, leave_rule, leave_when}
+use Rattle.pile.specs.Rules.{Step, further, hole_place, holds_tag, tag_place, tag_place_when, put, drawn_place, drawn_places, receipt, radix_rule, radix_when, entry_rule, entry_asked, entry_drawn, entry_counted, leave_rule, leave_when}
 use Rattle.pile.proofs.Radices.{radix_joined}
 
 -- an answer from below, as the front gives it

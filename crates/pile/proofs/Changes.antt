@@ -1,10 +1,10 @@
 -- The laws over lists of changes, change by change.
-use Rattle.std.proofs.Common.{◌≡◌, ℕ, zero, suc, ◌+◌, ◌-◌, ◌<◌, ◌≤◌, Bool, true, false, eqb, ltb, List, [], ◌∷◌, ◌++◌, get_or, set, Some, None, Option, sym, refl, ap, ◌∙◌, subst, arith}
+use Rattle.std.proofs.Common.{◌≡◌, ℕ, zero, suc, ◌+◌, ◌<◌, ◌≤◌, Bool, true, false, eqb, ltb, List, [], ◌∷◌, ◌++◌, get_or, set, Some, None, Option, refl, subst, arith}
 use Rattle.std.proofs.lemmas.Bool.{ltb-true, eqb-true, eqb-false}
 use Rattle.pile.specs.Answers.{Place, Told, told, refused}
-use Rattle.pile.specs.Laws.{Change, entry, leave, after_one, after_all, one_if, times, StandsOnce, EntersAnew, AllEnterAnew, IsEntry, AllEntries}
+use Rattle.pile.specs.Laws.{Change, entry, leave, after_one, after_all, one_if, times, StandsOnce, EntersAnew, AllEnterAnew, AllEntries}
 use Rattle.pile.specs.Meaning.{Meaning, Sound}
-use Rattle.pile.specs.Rules.{holds_tag, put, hole_place, tag_place, drawn_places, radix_rule, entry_rule, entry_asked, entry_drawn, entry_counted, leave_rule, leave_when}
+use Rattle.pile.specs.Rules.{holds_tag, put, hole_place, tag_place, drawn_places, radix_rule, entry_asked, entry_drawn, entry_counted, leave_when}
 use Rattle.pile.proofs.Radices.{radix_joined, radix_paired}
 use Rattle.pile.proofs.Soundness.{joined_sound, paired_sound, vacated_sound}
 

@@ -1,6 +1,6 @@
 -- What a radix that is told says of the pile.
-use Rattle.std.proofs.Common.{◌≡◌, ℕ, ◌+◌, ◌<◌, Bool, true, false, eqb, ltb, sym, refl, ◌∙◌, arith}
-use Rattle.std.proofs.lemmas.Bool.{ltb-true, eqb-true, eqb-false, true≢false, false≢true, eq-eqb, ne_eqb}
+use Rattle.std.proofs.Common.{◌≡◌, ℕ, ◌+◌, ◌<◌, Bool, true, false, eqb, ltb, refl, arith}
+use Rattle.std.proofs.lemmas.Bool.{ltb-true, true≢false, false≢true, eq-eqb, ne_eqb}
 use Rattle.pile.specs.Answers.{Told, told, refused}
 use Rattle.pile.specs.Meaning.{Meaning}
 use Rattle.pile.specs.Rules.{radix_rule, radix_when}

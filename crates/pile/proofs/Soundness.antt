@@ -1,9 +1,9 @@
 -- Every change of a sound meaning leaves a sound one.
-use Rattle.std.proofs.Common.{◌≡◌, ℕ, zero, suc, ◌+◌, ◌-◌, ◌<◌, ◌≤◌, min, Bool, true, false, eqb, ltb, List, [], ◌∷◌, ◌++◌, length, get_or, set, Some, None, Option, sym, refl, ap, ◌∙◌, subst, arith, length-append, length-set, MatchOption}
-use Rattle.std.proofs.lemmas.Bool.{ltb-true, ltb-false, eqb-true, eqb-false}
-use Rattle.pile.specs.Answers.{Place, Told, told, refused}
+use Rattle.std.proofs.Common.{◌≡◌, ℕ, zero, suc, ◌+◌, ◌-◌, ◌<◌, ◌≤◌, min, Bool, true, false, ltb, List, [], ◌∷◌, ◌++◌, length, get_or, set, Some, None, Option, sym, refl, ap, ◌∙◌, subst, arith, length-append, length-set, MatchOption}
+use Rattle.std.proofs.lemmas.Bool.{ltb-true, ltb-false}
+use Rattle.pile.specs.Answers.{Place}
 use Rattle.pile.specs.Meaning.{Meaning, Sound, holes}
-use Rattle.pile.specs.Rules.{further, hole_place, tag_place, put, drawn_places, joined, paired, vacated, radix_rule, radix_when, entry_rule, entry_asked, entry_drawn, entry_counted, leave_rule, leave_when}
+use Rattle.pile.specs.Rules.{further, hole_place, tag_place, put, drawn_places, joined, paired, vacated}
 
 -- how many holes a change leaves
 pub holes_append : (ps qs : List Place) → holes (ps ++ qs) ≡ holes ps + holes qs

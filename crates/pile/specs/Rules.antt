@@ -4,7 +4,7 @@ use Rattle.std.specs.List.{slice_get}
 use Rattle.pile.specs.declared.receipts.EntryReceipt.{EntryReceipt}
 use Rattle.pile.specs.declared.receipts.LeaveReceipt.{LeaveReceipt}
 use Rattle.pile.specs.Answers.{Told, refused, told, Place}
-use Rattle.pile.specs.Meaning.{Meaning, holes, standing}
+use Rattle.pile.specs.Meaning.{Meaning, standing}
 
 -- what a change answers, and what the pile means after it
 pub record Step (A : Type 0) : Type 0 where

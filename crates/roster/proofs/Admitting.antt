@@ -1,9 +1,9 @@
 -- The questions of admit, one after the other.
-use Rattle.std.proofs.Common.{◌≡◌, ℕ, Bool, true, false, ltb, length, is_some, Some, None, Option, sym, refl, ap, ◌∙◌}
+use Rattle.std.proofs.Common.{◌≡◌, ℕ, true, false, ltb, length, is_some, Some, None, Option, refl, ap, ◌∙◌}
 use Rattle.std.proofs.lemmas.Bool.{true≢false}
 use Rattle.pile.specs.Answers.{Told}
 use Rattle.calls.specs.Book.{KeyView, Book, live_count, tag_of, free_tag}
-use Rattle.calls.specs.Calls.{Verdict, refuses, admit_lawful, admit_open, admit_live, admit_room, admit_radix}
+use Rattle.calls.specs.Calls.{refuses, admit_lawful, admit_open, admit_live, admit_room, admit_radix}
 use Rattle.roster.specs.Rosters.{open_told}
 use Rattle.roster.specs.declared.record.Pending.{Pending}
 

@@ -1,7 +1,7 @@
 -- What a roster means after one of its records was written.
-use Rattle.std.proofs.Common.{◌≡◌, ℕ, ◌<◌, ◌≤◌, List, map, length, get_or, take, set, Some, None, Option, sym, refl, ap, ◌∙◌, arith, length-set, get_or-take, get_or-set_same}
+use Rattle.std.proofs.Common.{◌≡◌, ℕ, ◌<◌, ◌≤◌, List, map, length, get_or, take, set, Some, None, Option, sym, refl, ap, ◌∙◌, arith, get_or-take, get_or-set_same}
 use lib.Seq.{take-set-lt}
-use Rattle.std.proofs.lemmas.List.{map-set, set-get_or, length-take-le}
+use Rattle.std.proofs.lemmas.List.{map-set, set-get_or}
 use Rattle.calls.specs.Book.{KeyView, OpenEntry, Book}
 use Rattle.calls.specs.Steps.{opened, closed, settled, gone}
 use Rattle.roster.specs.Rosters.{slot_of, waiting, entry_of}

@@ -4,9 +4,9 @@ use Rattle.pile.specs.declared.receipts.LeaveReceipt.{LeaveReceipt}
 use Rattle.pile.specs.Answers.{Told, told, refused}
 use Rattle.pile.specs.Meaning.{Meaning}
 use Rattle.pile.specs.Rules.{leave_rule, leave_when}
-use Rattle.calls.specs.Book.{KeyView, OpenEntry, Book, tag_of}
+use Rattle.calls.specs.Book.{KeyView, Book, tag_of}
 use Rattle.calls.specs.Calls.{Verdict, lets_go, leave, leave_lawful, leave_open, leave_live, leave_slot, leave_counted}
-use Rattle.calls.specs.Steps.{Step, step, carried_out, gives, gone, left, leave_answer}
+use Rattle.calls.specs.Steps.{step, carried_out, gives, gone, left, leave_answer}
 
 not_refused : (receipt : LeaveReceipt) (n : ℕ) → ◌≡◌ {A = Told LeaveReceipt} (told receipt) (refused n) → ⊥
 not_refused receipt n e = let z : ◌≡◌ {A = ℕ} 0 1 = cc in omega arith

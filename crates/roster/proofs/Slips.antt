@@ -1,10 +1,9 @@
 -- A slip and the open entry.
-use Rattle.std.proofs.Common.{◌≡◌, ℕ, ◌<◌, Bool, true, false, ◌&&◌, eqb, map, get_or, take, Some, None, Option, sym, refl, ap, ◌∙◌, subst, arith, MatchOption}
+use Rattle.std.proofs.Common.{◌≡◌, ℕ, ◌<◌, true, ◌&&◌, eqb, Some, Option, ap, ◌∙◌, arith}
 use Rattle.std.proofs.lemmas.Bool.{and_parts, eqb-true, lt-ltb}
-use Rattle.std.proofs.lemmas.Option.{MatchOption-at_some}
 use Rattle.pile.specs.Meaning.{Meaning}
 use Rattle.pile.specs.Rules.{radix_rule, entry_rule}
-use Rattle.calls.specs.Book.{KeyView, OpenEntry, Book}
+use Rattle.calls.specs.Book.{OpenEntry, Book}
 use Rattle.calls.specs.Steps.{Step, step, carried_out, gives, settle_drawn, settled, entry_answer}
 use Rattle.calls.specs.Calls.{Verdict, is_slip, calls_for, settle, settles, settle_open, settle_when, withdraws, withdraw_open, withdraw_when}
 

@@ -1,6 +1,6 @@
 -- The slots that lent records stand for, and the searches over them, step by step.
-use Rattle.std.proofs.Common.{◌≡◌, ℕ, zero, suc, ◌+◌, ◌-◌, ◌%◌, ◌<◌, ◌≤◌, Bool, true, false, not, List, [], ◌∷◌, map, length, get_or, take, drop, set, is_some, IfSome, Some, None, Option, sym, refl, ap, ◌∙◌, subst, arith, get_or-take}
-use Rattle.std.proofs.lemmas.List.{length-map, length-take-le, get_or-map, get_or_read, drop_more, drop_all, map-set}
+use Rattle.std.proofs.Common.{◌≡◌, ℕ, zero, suc, ◌+◌, ◌-◌, ◌%◌, ◌<◌, ◌≤◌, Bool, true, false, List, map, length, get_or, take, drop, IfSome, Some, None, Option, sym, refl, ap, ◌∙◌, subst, arith, get_or-take}
+use Rattle.std.proofs.lemmas.List.{length-map, length-take-le, get_or-map, get_or_read, drop_more, drop_all}
 use Rattle.std.proofs.lemmas.Bool.{true≢false, false≢true}
 use Rattle.calls.specs.Book.{KeyView, OpenEntry, turn, found_or, seek, seek_all, live_count, one_if_held, is_free}
 use Rattle.roster.specs.Rosters.{slot_of, open_told, waiting}

@@ -1,7 +1,7 @@
 -- What the questions of admit before the pile's come to.
 use Rattle.std.specs.Prelude.{◌≡◌, ℕ, ◌<◌, None, slice_index_or}
 use Rattle.pile.specs.Answers.{Told}
-use Rattle.calls.specs.Book.{KeyView, Book}
+use Rattle.calls.specs.Book.{KeyView}
 use Rattle.calls.specs.Calls.{refuses, admit_lawful, admit_radix}
 use Rattle.roster.specs.Rosters.{book_of}
 use Rattle.roster.specs.declared.roster.Roster.{Roster}

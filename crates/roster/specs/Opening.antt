@@ -2,7 +2,7 @@
 use Rattle.std.specs.Prelude.{ℕ, Bool, true, false, ◌&&◌, List, ◌++◌, drop, replicate, None, nat_le}
 use Rattle.pile.specs.Answers.{Told}
 use Rattle.pile.specs.Opening.{asked}
-use Rattle.calls.specs.Book.{KeyView, Book}
+use Rattle.calls.specs.Book.{Book}
 use Rattle.roster.specs.declared.record.Record.{Record}
 use Rattle.roster.specs.declared.record.Record.TheVariants.{Free}
 

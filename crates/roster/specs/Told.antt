@@ -1,5 +1,5 @@
 -- What the answers of the calls say, in the words of the rules.
-use Rattle.std.specs.Prelude.{◌≡◌, ℕ, Ok, Err, Result}
+use Rattle.std.specs.Prelude.{◌≡◌, Ok, Err, Result}
 use Rattle.pile.specs.declared.receipts.EntryReceipt.{EntryReceipt}
 use Rattle.pile.specs.declared.receipts.LeaveReceipt.{LeaveReceipt}
 use Rattle.calls.specs.Steps.{Answer, refusal, slip, entered, withdrawn, left}

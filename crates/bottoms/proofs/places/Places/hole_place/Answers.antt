@@ -1,4 +1,4 @@
-use Rattle.std.proofs.Common.{◌<◌, length, sym, refl, ◌∙◌, arith}
+use Rattle.std.proofs.Common.{sym, refl, ◌∙◌, arith}
 use Rattle.bottoms.specs.Row.{row}
 use Rattle.pile.specs.Rules.{hole_place}
 use Rattle.bottoms.proofs.Rows.{row_length, moved_none}

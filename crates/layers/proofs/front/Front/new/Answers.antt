@@ -1,5 +1,4 @@
-use Rattle.std.proofs.Common.{ℕ, take, ap, arith}
-use Rattle.std.proofs.lemmas.List.{nil_from_length}
+use Rattle.std.proofs.Common.{ℕ, ap}
 use Rattle.layers.specs.Layers.{fronted}
 use Rattle.layers.specs.Fronts.{fronted_new}
 use Rattle.layers.proofs.front.Front.new.Goals as goal

@@ -1,4 +1,4 @@
-use Rattle.std.proofs.Common.{◌≡◌, ap, ◌∙◌, arith}
+use Rattle.std.proofs.Common.{◌≡◌, ap, arith}
 use Rattle.pile.specs.Answers.{place_told}
 use Rattle.layers.specs.Fronts.{held, held_none, standing_next}
 use Rattle.layers.proofs.front.Front.standing.Goals as goal

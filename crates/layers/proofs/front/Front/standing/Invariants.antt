@@ -1,4 +1,4 @@
-use Rattle.std.proofs.Common.{◌≡◌, ◌+◌, ◌≤◌, take, drop}
+use Rattle.std.proofs.Common.{◌≡◌, ◌≤◌, take}
 use Rattle.pile.specs.Meaning.{standing}
 use Rattle.layers.proofs.front.Front.standing.Given as goal
 

@@ -1,13 +1,12 @@
-use Rattle.std.proofs.Common.{◌≡◌, ℕ, set, Some, Err, sym, refl, ap, ◌∙◌, subst}
+use Rattle.std.proofs.Common.{◌≡◌, ℕ, set, Some, Err, sym, ap, ◌∙◌}
 use Rattle.roster.specs.declared.record.Record.TheVariants.{Waiting}
 use Rattle.std.proofs.lemmas.Result.{err_from_is_err_and}
 use Rattle.pile.specs.Rules.{radix_rule}
 use Rattle.pile.specs.Answers.{told}
-use Rattle.calls.specs.Calls.{Verdict, admit_radix, verdict, admit}
+use Rattle.calls.specs.Calls.{Verdict, admit_radix}
 use Rattle.calls.specs.Steps.{carried_out, gives, slip}
 use Rattle.roster.specs.Rosters.{viewed, book_of}
 use Rattle.roster.specs.Told.{admit_told}
-use Rattle.roster.specs.Numbers.{roster_fault_number}
 use Rattle.roster.proofs.Books.{book_with, book_opened, numbers}
 use Rattle.roster.proofs.roster.Roster.admit.Goals as goal
 

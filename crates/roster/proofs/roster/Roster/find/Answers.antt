@@ -1,4 +1,4 @@
-use Rattle.std.proofs.Common.{◌≡◌, ◌-◌, ◌%◌, ◌<◌, sym, refl, ap, ◌∙◌, mod-lt, arith}
+use Rattle.std.proofs.Common.{◌≡◌, ◌-◌, ◌%◌, ◌<◌, sym, ap, ◌∙◌, mod-lt, arith}
 use Rattle.calls.specs.Book.{holds_form}
 use Rattle.roster.specs.Rosters.{viewed, book_of}
 use Rattle.roster.proofs.Slots.{slots_length, seek_begins, seek_found, seek_pass, seek_ends}

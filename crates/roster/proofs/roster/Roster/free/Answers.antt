@@ -1,4 +1,4 @@
-use Rattle.std.proofs.Common.{◌≡◌, ◌-◌, ◌%◌, ◌<◌, get_or, None, sym, refl, ap, ◌∙◌, mod-lt, arith}
+use Rattle.std.proofs.Common.{◌≡◌, ◌-◌, ◌%◌, ◌<◌, get_or, None, sym, ap, ◌∙◌, mod-lt, arith}
 use Rattle.calls.specs.Book.{is_free}
 use Rattle.roster.specs.Rosters.{viewed, book_of}
 use Rattle.roster.proofs.Slots.{slots_length, seek_begins, seek_found, seek_pass, seek_ends, free_slot}

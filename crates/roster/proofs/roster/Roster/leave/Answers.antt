@@ -1,8 +1,8 @@
-use Rattle.std.proofs.Common.{◌≡◌, ℕ, take, set, Some, None, sym, ap, ◌∙◌}
+use Rattle.std.proofs.Common.{ℕ, set, None, sym, ap, ◌∙◌}
 use Rattle.std.specs.Option.{option_map}
 use Rattle.pile.specs.Rules.{leave_rule}
 use Rattle.calls.specs.Steps.{Step}
-use Rattle.roster.specs.Rosters.{viewed, book_of, slot_of, entry_of}
+use Rattle.roster.specs.Rosters.{viewed, book_of}
 use Rattle.roster.specs.declared.record.Record.TheVariants.{Free}
 use Rattle.roster.proofs.Admitting.{none_open}
 use Rattle.roster.proofs.Books.{book_with, book_gone}

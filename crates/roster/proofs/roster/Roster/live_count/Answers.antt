@@ -1,4 +1,4 @@
-use Rattle.std.proofs.Common.{◌≡◌, ◌<◌, length, sym, ap, ◌∙◌, arith}
+use Rattle.std.proofs.Common.{◌<◌, length, ap, ◌∙◌, arith}
 use Rattle.calls.specs.Book.{is_free}
 use Rattle.roster.specs.Rosters.{viewed, book_of}
 use Rattle.roster.proofs.Slots.{slots_length, count_live, count_free, count_ends}

@@ -1,7 +1,7 @@
-use Rattle.std.proofs.Common.{◌≡◌, ℕ, map, length, take, None, sym, refl, ap, ◌∙◌}
-use Rattle.calls.specs.Book.{Book, new_book}
+use Rattle.std.proofs.Common.{length, None, ap, ◌∙◌}
+use Rattle.calls.specs.Book.{new_book}
 use Rattle.roster.specs.Opening.{cleared, opened_book, taken_capacity}
-use Rattle.roster.specs.Rosters.{viewed, slot_of}
+use Rattle.roster.specs.Rosters.{viewed}
 use Rattle.roster.proofs.Books.{book_with}
 use Rattle.roster.proofs.Clearing.{cleared_slots, opened_new}
 use Rattle.roster.proofs.roster.Roster.new.Goals as goal

@@ -1,4 +1,4 @@
-use Rattle.std.proofs.Common.{◌≡◌, ℕ, get_or, sym, ◌∙◌, subst}
+use Rattle.std.proofs.Common.{◌≡◌, ℕ, get_or, subst}
 use Rattle.roster.specs.Rosters.{viewed}
 use Rattle.roster.proofs.Slots.{slot_read, record_read}
 use Rattle.roster.proofs.roster.Roster.record_at.Goals as goal

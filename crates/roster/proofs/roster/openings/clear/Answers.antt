@@ -1,4 +1,4 @@
-use Rattle.std.proofs.Common.{set, sym, refl, ap, ◌∙◌, arith}
+use Rattle.std.proofs.Common.{set, ap, ◌∙◌, arith}
 use Rattle.roster.specs.declared.record.Record.TheVariants.{Free}
 use Rattle.roster.proofs.Clearing.{cleared_more}
 use Rattle.roster.proofs.roster.openings.clear.Goals as goal
