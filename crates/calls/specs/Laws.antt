@@ -1,5 +1,5 @@
 -- What follows for a list of calls alone, whatever source each enter had, on a roster and a pile that were new.
-use Rattle.std.specs.Prelude.{◌≡◌, ℕ, ◌+◌, ◌*◌, ◌<◌, true, false, List, [], ◌∷◌, ◌++◌, map, length, get_or, take, Some, None, Option, nat_lt, slice_index_or}
+use Rattle.std.specs.Prelude.{◌≡◌, ℕ, ◌+◌, ◌*◌, ◌<◌, true, false, List, [], ◌∷◌, ◌++◌, map, length, take, Some, None, Option, nat_lt, slice_index_or}
 use Rattle.pile.specs.Meaning.{Meaning}
 use Rattle.evenness.specs.Counting.{choose, choose_less}
 use Rattle.sources.specs.Courses.{Given}
@@ -65,7 +65,7 @@ SameAnswers m b calls tape other = map bare (answers_under b m calls tape) ≡ m
 -- What holds of every roster that the calls make. An entry is open only while its tag is a free slot and its key is not live.
 pub record Openable (slots : List (Option KeyView)) (entry : OpenEntry) : Type 0 where
   pub below : entry.tag < length slots
-  pub free : get_or slots entry.tag None ≡ None
+  pub free : slice_index_or slots entry.tag None ≡ None
   pub not_live : (slot : ℕ) → holds_form entry.key.form (slice_index_or slots slot None) ≡ false
 
 abbrev pub EntryFits : List (Option KeyView) → Option OpenEntry → Type 0

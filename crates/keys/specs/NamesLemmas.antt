@@ -1,5 +1,5 @@
 -- Names: equal texts are equal names, and the laws of names as keys.
-use Rattle.std.specs.Prelude.{◌≡◌, ℕ, ◌-◌, ◌<◌, ◌≤◌, Bool, true, false, leb, List, [], ◌∷◌, ◌++◌, length, take, drop, replicate, IsUtf8, Decides, nat_le, slice_index, refl}
+use Rattle.std.specs.Prelude.{◌≡◌, ℕ, ◌-◌, ◌<◌, ◌≤◌, Bool, true, false, List, [], ◌∷◌, ◌++◌, length, take, drop, replicate, IsUtf8, Decides, nat_le, slice_index, refl}
 use Rattle.std.proofs.Common.{sym, ap, ◌∙◌, arith}
 use Rattle.std.proofs.Math.Bool.{Bool-set}
 use mathlib.Core.HLevel.{is_prop→PathP}
@@ -75,7 +75,7 @@ pub name_back : (n : Name) (rest : List ℕ) → lawful_name n ≡ true → name
 name_back n rest l =
     let text = name_text n in
     let size : lawful_length n.len ≡ true = ap lawful_length n.counted ∙ (and_parts _ _ l).0 in
-    let here : leb n.len (length (text ++ rest)) ≡ true =
+    let here : nat_le n.len (length (text ++ rest)) ≡ true =
     le-leb n.len (length (text ++ rest)) (omega (arith, n.counted, length-append text rest))
     in
     ap (λ b. name_reading_when b (nat_le n.len (length (text ++ rest))) n.len (text ++ rest)) size
@@ -123,7 +123,7 @@ reading_at [] len e lawful there = absurd (false≢true (sym (ap lawful_length e
 reading_at (b ∷ bs) len e lawful there =
     let all : take (length (b ∷ bs) - 1) bs ≡ bs = take_all (length (b ∷ bs) - 1) bs (omega arith) in
     let size : lawful_length b ≡ true = sym (ap lawful_length e) ∙ lawful in
-    let here : leb b (length bs) ≡ true = le-leb b (length bs) (omega (arith, ap length all)) in
+    let here : nat_le b (length bs) ≡ true = le-leb b (length bs) (omega (arith, ap length all)) in
     let n : len - 0 ≡ b = omega arith in
     ap (λ k. named (take k (take (length (b ∷ bs) - 1) bs))) n
     ∙ ap (λ t. named (take b t)) all

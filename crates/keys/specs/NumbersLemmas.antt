@@ -1,5 +1,5 @@
 -- The laws of numbers as keys.
-use Rattle.std.specs.Prelude.{◌≡◌, ℕ, ◌+◌, ◌*◌, ◌/◌, ◌%◌, ◌<◌, ◌≤◌, true, ◌&&◌, ltb, List, [], ◌∷◌, ◌++◌, length, drop, None, nat_le, nat_lt}
+use Rattle.std.specs.Prelude.{◌≡◌, ℕ, ◌+◌, ◌*◌, ◌/◌, ◌%◌, ◌<◌, ◌≤◌, true, ◌&&◌, List, [], ◌∷◌, ◌++◌, length, drop, None, nat_le, nat_lt}
 use Rattle.std.proofs.Common.{sym, ap, ◌∙◌, arith}
 use Rattle.std.proofs.lemmas.Bool.{and_parts, and_from, leb-true, ltb-true, lt-ltb}
 use Rattle.std.proofs.lemmas.Bool.Decides.{nat_tests}
@@ -18,7 +18,7 @@ number_back n rest l =
     let v = n.value in
     let whole : v / 256 * 256 + v % 256 ≡ v = omega arith in
     let same : of_bytes (v / 256) (v % 256) ≡ n = ap numbered whole in
-    let low : ltb (v % 256) 256 ≡ true = lt-ltb (v % 256) 256 (omega arith) in
+    let low : nat_lt (v % 256) 256 ≡ true = lt-ltb (v % 256) 256 (omega arith) in
     let test : (nat_lt (v % 256) 256 && lawful_number (of_bytes (v / 256) (v % 256))) ≡ true = and_from _ _ low (ap lawful_number same ∙ l) in
     ap (λ t. read_if t (of_bytes (v / 256) (v % 256))) test ∙ ap read same
 

@@ -25,7 +25,7 @@ impl EntriesOnly {
 impl Pile for EntriesOnly {
     ghost meaning = { entries_only_meaning };
 
-    ghost sound = { first_of (Prim.search rules, Prim.grind (arith, Self.row.coded.inj)) };
+    ghost sound = { Prim.search rules };
 
     fn bound(&self) -> u8 {
         self.bound

@@ -26,7 +26,7 @@ impl Paired {
 impl Pile for Paired {
     ghost meaning = { paired_meaning };
 
-    ghost sound = { first_of (Prim.search rules, Prim.grind (arith, Self.row.coded.inj)) };
+    ghost sound = { Prim.search rules };
 
     fn bound(&self) -> u8 {
         self.bound

@@ -110,11 +110,11 @@ impl Key for Name {
 
     ghost equal = { equal_from_back name_form lawful_name name_reading name_back };
 
-    ghost alike = { first_of (Prim.search rules, Prim.grind (arith, Self.row.coded.inj)) };
+    ghost alike = { Prim.search rules };
 
-    ghost classes = { first_of (Prim.search rules, Prim.grind (arith, Self.row.coded.inj)) };
+    ghost classes = { Prim.search rules };
 
-    ghost sizes = { first_of (Prim.search rules, Prim.grind (arith, Self.row.coded.inj)) };
+    ghost sizes = { Prim.search rules };
 
     ghost bytes = { λ n l. name_bytes n };
 
@@ -122,7 +122,7 @@ impl Key for Name {
 
     ghost back = { name_back };
 
-    ghost found = { first_of (Prim.search rules, Prim.grind (arith, Self.row.coded.inj)) };
+    ghost found = { Prim.search rules };
 
     ghost begins = { name_begins };
 

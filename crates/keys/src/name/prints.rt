@@ -24,9 +24,9 @@ impl Name {
 impl Printed for Name {
     ghost printed = { name_printed };
 
-    ghost agrees = { first_of (Prim.search rules, Prim.grind (arith, Self.row.coded.inj)) };
+    ghost agrees = { Prim.search rules };
 
-    ghost brief = { first_of (Prim.search rules, Prim.grind (arith, Self.row.coded.inj)) };
+    ghost brief = { Prim.search rules };
 
     fn print(&self, page: &mut [u8], at: usize) -> Option<usize> {
         put(page, at, self.text())
