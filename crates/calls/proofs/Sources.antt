@@ -47,9 +47,9 @@ TookOne course o =
     MatchOption o (Unit {0})
     (λ receipt. (more : List ℕ) → course (receipt.radix ∷ more) ≡ draws_then (receipt.draw ∷ []) (followed course receipt.radix more))
 
-first_of : (draws : List ℕ) (draw : ℕ) (others : List ℕ) → take 1 draws ≡ draw ∷ others → draws ≡ draw ∷ rest_of_draws draws
-first_of [] draw others e = let z : ◌≡◌ {A = ℕ} 0 1 = cc in let no' : ⊥ = omega arith in absurd no'
-first_of (x ∷ draws) draw others e = let same : x ≡ draw = cc in ap (λ y. y ∷ draws) same
+first_draw : (draws : List ℕ) (draw : ℕ) (others : List ℕ) → take 1 draws ≡ draw ∷ others → draws ≡ draw ∷ rest_of_draws draws
+first_draw [] draw others e = let z : ◌≡◌ {A = ℕ} 0 1 = cc in let no' : ⊥ = omega arith in absurd no'
+first_draw (x ∷ draws) draw others e = let same : x ≡ draw = cc in ap (λ y. y ∷ draws) same
 
 said_took :
     (course : List ℕ → Given) (radix draw : ℕ) (others : List ℕ) (a : Told EntryReceipt) → Steady course →
@@ -61,7 +61,7 @@ said_took course radix draw others (told receipt) steady e says =
     let begins : take 1 (course (receipt.radix ∷ more)).draws ≡ receipt.draw ∷ others =
     subst (λ (r : ℕ). take 1 (course (r ∷ more)).draws ≡ receipt.draw ∷ others) (same_told radix receipt.radix says.0)
     (steady (radix ∷ []) more ∙ e ∙ ap (λ d. d ∷ others) (sym says.1)) in
-    λ i. record { draws = first_of given.draws receipt.draw others begins i; refusal = given.refusal }
+    λ i. record { draws = first_draw given.draws receipt.draw others begins i; refusal = given.refusal }
 
 settle_took :
     (b : Book) (m : Meaning) (entry : OpenEntry) (course : List ℕ → Given) → Steady course →

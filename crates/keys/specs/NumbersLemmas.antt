@@ -3,9 +3,10 @@ use Rattle.std.specs.Prelude.{◌≡◌, ℕ, ◌+◌, ◌*◌, ◌/◌, ◌%◌
 use Rattle.std.proofs.Common.{sym, ap, ◌∙◌, arith}
 use Rattle.std.proofs.lemmas.Bool.{and_parts, and_from, leb-true, ltb-true, lt-ltb}
 use Rattle.std.proofs.lemmas.Bool.Decides.{nat_tests}
+use Rattle.std.proofs.lemmas.Fmt.{decimal_nonempty, length-decimal-le}
 use Rattle.keys.specs.Answers.{read, read_if}
 use Rattle.keys.specs.Bytes.{Bytes}
-use Rattle.keys.specs.Numbers.{number_form, lawful_number, number_class, number_reading, of_bytes}
+use Rattle.keys.specs.Numbers.{number_form, lawful_number, number_class, number_printed, number_reading, of_bytes}
 use Rattle.keys.specs.declared.number.Number.{Number}
 use Rattle.keys.specs.KeyLaws.{not_read, passed}
 
@@ -25,10 +26,17 @@ number_back n rest l =
 pub number_class_below : (n : Number) → number_class n < 8
 number_class_below n = grind (arith, nat_tests)
 
+number_most : (n : Number) → lawful_number n ≡ true → n.value ≤ 65535
+number_most n l = leb-true n.value 65535 (and_parts (nat_le 1 n.value) (nat_le n.value 65535) l).1
+
 pub number_bytes : (n : Number) → lawful_number n ≡ true → Bytes (number_form n)
-number_bytes n l =
-    let high : n.value ≤ 65535 = leb-true n.value 65535 (and_parts (nat_le 1 n.value) (nat_le n.value 65535) l).1 in
-    (omega arith, (omega arith, tt))
+number_bytes n l = let high = number_most n l in (omega arith, (omega arith, tt))
+
+-- a number prints in 1 to 5 digits
+pub number_brief : (n : Number) → lawful_number n ≡ true → (1 ≤ length (number_printed n)) × (length (number_printed n) ≤ 8)
+number_brief n l =
+    let high = number_most n l in
+    (decimal_nonempty n.value (omega arith), omega (arith, length-decimal-le 5 n.value (omega arith) (omega arith) (omega arith)))
 
 pub number_found : (n : Number) (bytes : List ℕ) → number_reading bytes ≡ read n → lawful_number n ≡ true
 number_found n [] e = absurd (not_read None n e)

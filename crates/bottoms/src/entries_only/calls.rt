@@ -2,7 +2,7 @@
 ghost use Rattle.std.specs.Prelude.{◌≡◌, false};
 ghost use Rattle.bottoms.specs.Bottoms.{entries_only_meaning, opened};
 ghost use Rattle.pile.specs.Meaning.{New};
-ghost use Rattle.std.proofs.Common.{rules, arith};
+ghost use Rattle.std.proofs.Common.{rules};
 
 use super::EntriesOnly;
 use crate::places::Places;

@@ -2,7 +2,7 @@
 ghost use Rattle.std.specs.Prelude.{◌≡◌, true};
 ghost use Rattle.bottoms.specs.Bottoms.{paired_meaning, opened};
 ghost use Rattle.pile.specs.Meaning.{New};
-ghost use Rattle.std.proofs.Common.{rules, arith};
+ghost use Rattle.std.proofs.Common.{rules};
 
 use super::Paired;
 use crate::places::Places;

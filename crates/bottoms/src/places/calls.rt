@@ -1,5 +1,5 @@
 // What a bottom does with its places.
-ghost use Rattle.std.specs.Prelude.{◌≡◌, ◌<◌, ◌≤◌, min, [], ◌∷◌, ◌++◌, length, IfSome, Some, None, nat_lt, slice_index_or, slice_set};
+ghost use Rattle.std.specs.Prelude.{◌≡◌, ◌<◌, ◌≤◌, min, [], ◌∷◌, ◌++◌, IfSome, Some, None, nat_lt, slice_index_or, slice_set};
 ghost use Rattle.std.specs.List.{slice_get};
 ghost use Rattle.pile.specs.Answers.{place_told};
 ghost use Rattle.pile.specs.Meaning.{standing};

@@ -6,7 +6,7 @@ ghost use Rattle.keys.specs.Names.{name_text, name_form, lawful_name, class_by, 
 ghost use Rattle.keys.specs.Texts.{lawful_length, lawful_byte, lawful_bytes, lawful_text, padded_text};
 ghost use Rattle.keys.specs.KeyLaws.{equal_from_back, apart_from_back};
 ghost use Rattle.keys.specs.NamesLemmas.{name_back, name_bytes, name_begins};
-ghost use Rattle.std.proofs.Common.{rules, arith};
+ghost use Rattle.std.proofs.Common.{rules};
 
 use super::Name;
 use crate::bytes::put;

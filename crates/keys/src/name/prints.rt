@@ -1,7 +1,7 @@
 // A name prints as its text.
 ghost use Rattle.std.specs.Prelude.{◌≡◌, Some};
 ghost use Rattle.keys.specs.Names.{name_text, name_printed};
-ghost use Rattle.std.proofs.Common.{rules, arith};
+ghost use Rattle.std.proofs.Common.{rules};
 
 use super::Name;
 use crate::bytes::put;

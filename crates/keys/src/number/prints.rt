@@ -1,9 +1,8 @@
 // A number prints in decimal.
-ghost use Rattle.std.specs.Prelude.{◌≡◌, ◌≤◌, length, drop, Some, nat_le};
+ghost use Rattle.std.specs.Prelude.{◌≡◌, ◌≤◌, length, drop, Some};
 ghost use Rattle.keys.specs.Numbers.{number_printed};
-ghost use Rattle.std.proofs.Common.{arith, rules};
-ghost use Rattle.std.proofs.lemmas.Fmt.{decimal_nonempty, length-decimal-le};
-ghost use Rattle.std.proofs.lemmas.Bool.{and_parts, leb-true};
+ghost use Rattle.keys.specs.NumbersLemmas.{number_brief};
+ghost use Rattle.std.proofs.Common.{rules};
 
 use super::Number;
 use crate::bytes::put;
@@ -36,10 +35,7 @@ impl Printed for Number {
 
     ghost agrees = { Prim.search rules };
 
-    ghost brief = { λ n l.
-        let v = n.value in
-        let high : v ≤ 65535 = leb-true v 65535 (and_parts (nat_le 1 v) (nat_le v 65535) l).1 in
-        (decimal_nonempty v (omega arith), omega (arith, length-decimal-le 5 v (omega arith) (omega arith) (omega arith))) };
+    ghost brief = { number_brief };
 
     fn print(&self, page: &mut [u8], at: usize) -> Option<usize> {
         let (digits, start) = self.digits();

@@ -1,5 +1,5 @@
 // The calls that change a roster.
-ghost use Rattle.std.specs.Prelude.{◌≡◌, ℕ, ◌<◌, IfSome, Some, None, MatchResult, slice_index_or, slice_set};
+ghost use Rattle.std.specs.Prelude.{◌≡◌, ◌<◌, IfSome, Some, None, MatchResult, slice_index_or, slice_set};
 ghost use Rattle.std.specs.Option.{option_map};
 ghost use Rattle.pile.specs.Rules.{radix_rule};
 ghost use Rattle.pile.specs.Meaning.{Meaning};
