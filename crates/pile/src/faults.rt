@@ -1,6 +1,8 @@
-// Why a pile, or an opening, refuses. specs/Answers.antt gives each fault its number.
-ghost use Rattle.std.specs.Prelude.{◌≡◌};
-ghost use Rattle.pile.specs.Answers.{pile_fault_number, opening_fault_number};
+// Why a pile, or an opening, refuses. specs/Answers.antt gives each fault its number and its words.
+// A number is asked for by name, and is no conversion into a byte, which would not say what the byte is. The words are written out,
+// since a derive that writes them promises nothing of them; an impl for all faults would still want one text for each.
+ghost use Rattle.std.specs.Prelude.{◌≡◌, Some};
+ghost use Rattle.pile.specs.Answers.{pile_fault_number, pile_fault_text, opening_fault_number, opening_fault_text};
 
 use std::fmt;
 
@@ -39,6 +41,17 @@ impl PileFault {
             PileFault::NoneLive => 15,
         }
     }
+
+    fn text(self) -> &'static str
+        ensures { result.now ≡ pile_fault_text self }
+    {
+        match self {
+            PileFault::Full => "10: 1024 counted keys are live, and no leave is unpaired",
+            PileFault::DrawTooLarge => "12: the draw is not below the radix",
+            PileFault::TakesNoLeaves => "14: the pile takes no leaves",
+            PileFault::NoneLive => "15: no counted key is live",
+        }
+    }
 }
 
 impl OpeningFault {
@@ -51,29 +64,30 @@ impl OpeningFault {
             OpeningFault::FrontSize => 4,
         }
     }
+
+    fn text(self) -> &'static str
+        ensures { result.now ≡ opening_fault_text self }
+    {
+        match self {
+            OpeningFault::Bound => "2: the bound is not 1 to 64",
+            OpeningFault::ClassSet => "3: the class set is empty",
+            OpeningFault::FrontSize => "4: the front is not 1 to 64",
+        }
+    }
 }
 
 impl fmt::Display for PileFault {
+    ghost output = { λ fault. Some (pile_fault_text fault) };
+
     fn fmt<W: fmt::Write>(&self, f: &mut fmt::Formatter<W>) -> fmt::Result {
-        let words = match self {
-            PileFault::Full => "1024 counted keys are live, and no leave is unpaired",
-            PileFault::DrawTooLarge => "the draw is not below the radix",
-            PileFault::TakesNoLeaves => "the pile takes no leaves",
-            PileFault::NoneLive => "no counted key is live",
-        };
-        let number = self.number();
-        write!(f, "{number}: {words}")
+        f.pad(self.text())
     }
 }
 
 impl fmt::Display for OpeningFault {
+    ghost output = { λ fault. Some (opening_fault_text fault) };
+
     fn fmt<W: fmt::Write>(&self, f: &mut fmt::Formatter<W>) -> fmt::Result {
-        let words = match self {
-            OpeningFault::Bound => "the bound is not 1 to 64",
-            OpeningFault::ClassSet => "the class set is empty",
-            OpeningFault::FrontSize => "the front is not 1 to 64",
-        };
-        let number = self.number();
-        write!(f, "{number}: {words}")
+        f.pad(self.text())
     }
 }

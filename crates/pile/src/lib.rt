@@ -6,7 +6,7 @@
 // over whole lists of changes. Nothing here allocates, recurses or panics.
 //
 // Definitions: specs/Meaning.antt says what a pile means, specs/Rules.antt what each call answers and changes,
-// specs/Answers.antt which number and values an answer has, specs/Opening.antt what is asked before an opening,
+// specs/Answers.antt which number, words and values an answer has, specs/Opening.antt what is asked before an opening,
 // specs/Laws.antt the words of the laws.
 
 #![tactic(auto)]

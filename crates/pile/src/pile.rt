@@ -7,6 +7,7 @@ ghost use Rattle.pile.specs.Rules.{radix_rule, entry_rule, leave_rule, place_rul
 use crate::faults::PileFault;
 use crate::receipts::{EntryReceipt, LeaveReceipt, PlaceState, Tag};
 
+// A class is a plain number, since one above 7 has its answer too: nobody counts it.
 pub trait Pile {
     // what the pile means
     ghost meaning: { Self → Meaning };
@@ -25,7 +26,7 @@ pub trait Pile {
     fn counts(&self) -> (u16, u16, u8)
         ensures { result ≡ counts_rule (meaning self.now) };
 
-    fn place(&self, i: u8) -> PlaceState
+    fn place(&self, i: u8) -> PlaceState<Tag>
         ensures { place_told result ≡ place_rule (meaning self.now) i };
 
     fn radix(&self, class: u8) -> Result<u16, PileFault>

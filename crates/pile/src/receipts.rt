@@ -17,10 +17,11 @@ pub struct LeaveReceipt {
     pub place: Option<u8>,
 }
 
-// What a place tells.
+// What a place tells: what it holds (a tag, or the key that the tag marks), that it is a hole, or that there is no such place.
+// No option of an option: there a hole would be `Some(None)`.
 #[derive(Clone, Copy, PartialEq, Eq, Debug)]
-pub enum PlaceState {
-    Held(Tag),
+pub enum PlaceState<T> {
+    Held(T),
     Hole,
     NoSuchPlace,
 }
