@@ -1,3 +1,1 @@
-pub mod Bottoms
-pub mod Rows
 pub mod Searches

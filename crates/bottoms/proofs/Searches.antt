@@ -1,55 +1,71 @@
--- The searches over the places, step by step, and that what they find is a place.
-use Rattle.std.proofs.Common.{◌≡◌, ℕ, zero, suc, ◌+◌, ◌-◌, ◌<◌, ◌≤◌, Bool, true, false, List, [], ◌∷◌, length, get_or, drop, is_some, IfSome, Some, None, Option, sym, refl, ap, ◌∙◌, subst, arith}
-use Rattle.std.proofs.lemmas.List.{drop_all}
-use Rattle.std.proofs.lemmas.Bool.{true≢false, false≢true}
+-- What std's searches over the places find, in the words of the rules, and that it is a place.
+use Rattle.std.proofs.Common.{◌≡◌, ℕ, zero, suc, ◌+◌, ◌<◌, Bool, true, false, List, [], ◌∷◌, length, is_some, not, cond, option_map, eqb, IfSome, Some, None, Option, Bor, count_by, sym, refl, ap, ◌∙◌, arith}
+use Rattle.std.specs.List.{position, position_from, filter, enumerate_from, slice_get}
+use Rattle.std.specs.Option.{option_eq}
+use Rattle.std.proofs.lemmas.List.Recursion.{is_count_by}
+use Rattle.std.proofs.lemmas.Iterator.Adapters.{position_from-zero}
 use Rattle.pile.specs.Answers.{Place}
+use Rattle.pile.specs.Meaning.{standing}
 use Rattle.pile.specs.Rules.{further, hole_place, holds_tag, tag_place, tag_place_when}
-use Rattle.bottoms.specs.Row.{row}
-use Rattle.bottoms.specs.declared.places.Places.{Places}
-use Rattle.bottoms.proofs.Rows.{row_length, moved, moved_more, read_more}
 
--- one step of a search F, where it goes on as F'
-step : (F F' : List Place → Option ℕ) (ps : List Place) (i : ℕ) (x : Place) → i < length ps → x ≡ get_or ps i None → F (x ∷ drop (i + 1) ps) ≡ further (F' (drop (i + 1) ps)) → moved i (F (drop i ps)) ≡ moved (i + 1) (F' (drop (i + 1) ps))
-step F F' ps i x h e g = ap (λ qs. moved i (F qs)) (read_more ps i x h e) ∙ ap (moved i) g ∙ moved_more i (F' (drop (i + 1) ps))
+pub standing_count : (ps : List Place) → standing ps ≡ count_by is_some ps
+standing_count = is_count_by standing is_some refl step
+  where
+    step : (p : Place) (ps : List Place) → standing (p ∷ ps) ≡ cond (is_some p) (1 + standing ps) (standing ps)
+    step (Some t) ps = omega arith
+    step None ps = refl
 
-found : (F : List Place → Option ℕ) (ps : List Place) (i : ℕ) (x : Place) → i < length ps → x ≡ get_or ps i None → F (x ∷ drop (i + 1) ps) ≡ Some 0 → moved i (F (drop i ps)) ≡ Some i
-found F ps i x h e g = ap (λ qs. moved i (F qs)) (read_more ps i x h e) ∙ ap (moved i) g ∙ ap Some (omega arith)
+-- n places further on
+abbrev moved : ℕ → Option ℕ → Option ℕ
+moved n None = None
+moved n (Some i) = Some (n + i)
 
-module _ (ps : List Place) (i : ℕ) (x : Place) (h : i < length ps) (e : x ≡ get_or ps i None) where
-  pub hole_pass : (r : ℕ) → is_some x ≡ true → moved i (hole_place (drop i ps) r) ≡ moved (i + 1) (hole_place (drop (i + 1) ps) r)
-  hole_pass r s = step (λ qs. hole_place qs r) (λ qs. hole_place qs r) ps i x h e (held x s)
-    where
-      held : (y : Place) → is_some y ≡ true → hole_place (y ∷ drop (i + 1) ps) r ≡ further (hole_place (drop (i + 1) ps) r)
-      held (Some t) _ = refl
-      held None f = absurd (false≢true f)
+moved_none : (o : Option ℕ) → moved 0 o ≡ o
+moved_none None = refl
+moved_none (Some i) = ap Some (omega arith)
 
-  pub hole_skip : (r : ℕ) → is_some x ≡ false → (r ≡ 0 → ⊥) → moved i (hole_place (drop i ps) r) ≡ moved (i + 1) (hole_place (drop (i + 1) ps) (r - 1))
-  hole_skip r s n = step (λ qs. hole_place qs r) (λ qs. hole_place qs (r - 1)) ps i x h e (open_one x r s n)
-    where
-      open_one : (y : Place) (r : ℕ) → is_some y ≡ false → (r ≡ 0 → ⊥) → hole_place (y ∷ drop (i + 1) ps) r ≡ further (hole_place (drop (i + 1) ps) (r - 1))
-      open_one (Some t) r f _ = absurd (true≢false f)
-      open_one None zero _ n = absurd (n refl)
-      open_one None (suc r) _ _ = ap (λ k. further (hole_place (drop (i + 1) ps) k)) (omega arith)
+moved_more : (n : ℕ) (o : Option ℕ) → moved n (further o) ≡ moved (n + 1) o
+moved_more n None = refl
+moved_more n (Some i) = ap Some (omega arith)
 
-  pub hole_found : (r : ℕ) → is_some x ≡ false → r ≡ 0 → moved i (hole_place (drop i ps) r) ≡ Some i
-  hole_found r s z = found (λ qs. hole_place qs r) ps i x h e (here x r s z)
-    where
-      here : (y : Place) (r : ℕ) → is_some y ≡ false → r ≡ 0 → hole_place (y ∷ drop (i + 1) ps) r ≡ Some 0
-      here (Some t) r f _ = absurd (true≢false f)
-      here None zero _ _ = refl
-      here None (suc r) _ z = let no_way : ⊥ = omega arith in absurd no_way
+abbrev pub is_tag : (tag : ℕ) → Place → Bool
+is_tag t p = option_eq eqb p (Some t)
 
-  pub tag_pass : (t : ℕ) → holds_tag x t ≡ false → moved i (tag_place (drop i ps) t) ≡ moved (i + 1) (tag_place (drop (i + 1) ps) t)
-  tag_pass t f = step (λ qs. tag_place qs t) (λ qs. tag_place qs t) ps i x h e (ap (λ b. tag_place_when b (tag_place (drop (i + 1) ps) t)) f)
+tag_from : (ps : List Place) (t n : ℕ) → moved n (tag_place ps t) ≡ position_from (is_tag t) n ps
+tag_from [] t n = refl
+tag_from (None ∷ ps) t n = moved_more n (tag_place ps t) ∙ tag_from ps t (n + 1)
+tag_from (Some u ∷ ps) t n = by (eqb u t) (tag_place ps t) (tag_from ps t (n + 1))
+  where
+    by : (b : Bool) (o : Option ℕ) → moved (n + 1) o ≡ position_from (is_tag t) (n + 1) ps → moved n (tag_place_when b o) ≡ cond b (Some n) (position_from (is_tag t) (n + 1) ps)
+    by true o e = ap Some (omega arith)
+    by false o e = moved_more n o ∙ e
 
-  pub tag_found : (t : ℕ) → holds_tag x t ≡ true → moved i (tag_place (drop i ps) t) ≡ Some i
-  tag_found t f = found (λ qs. tag_place qs t) ps i x h e (ap (λ b. tag_place_when b (tag_place (drop (i + 1) ps) t)) f)
+pub tag_position : (ps : List Place) (t : ℕ) → tag_place ps t ≡ position (is_tag t) ps
+tag_position ps t = sym (moved_none (tag_place ps t)) ∙ tag_from ps t 0 ∙ sym (position_from-zero (is_tag t) ps)
 
-pub search_ends : (F : List Place → Option ℕ) → F [] ≡ None → (ps : List Place) (i : ℕ) → length ps ≤ i → moved i (F (drop i ps)) ≡ None
-search_ends F e ps i h = ap (λ qs. moved i (F qs)) (drop_all i ps h) ∙ ap (moved i) e
+-- a place with its number
+abbrev pub is_hole : ℕ × Place → Bool
+is_hole q = not (is_some q.1)
+
+abbrev pub number : Option (ℕ × Place) → Option ℕ
+number = option_map (λ q. q.0)
+
+hole_from : (ps : List Place) (r n : ℕ) → moved n (hole_place ps r) ≡ number (slice_get (filter is_hole (enumerate_from n ps)) r)
+hole_from [] r n = refl
+hole_from (Some t ∷ ps) r n = moved_more n (hole_place ps r) ∙ hole_from ps r (n + 1)
+hole_from (None ∷ ps) zero n = ap Some (omega arith)
+hole_from (None ∷ ps) (suc r) n = moved_more n (hole_place ps r) ∙ hole_from ps r (n + 1)
+
+pub hole_nth : (ps : List Place) (r : ℕ) → hole_place ps r ≡ number (slice_get (filter is_hole (enumerate_from 0 ps)) r)
+hole_nth ps r = sym (moved_none (hole_place ps r)) ∙ hole_from ps r 0
+
+-- the number, where the place is behind a reference
+pub number_of : (o : Option (ℕ × Bor Place)) → option_map (λ q. q.0) o ≡ number (option_map (λ q. (q.0, q.1.now)) o)
+number_of None = refl
+number_of (Some q) = refl
 
 -- what a search finds is one of n places
-abbrev pub Within : Option ℕ → ℕ → Type 0
+abbrev Within : Option ℕ → ℕ → Type 0
 Within o n = IfSome o (λ i. i < n)
 
 further_within : (o : Option ℕ) (n : ℕ) → Within o n → Within (further o) (suc n)
@@ -69,8 +85,3 @@ tag_within_when false o n h = further_within o n h
 pub tag_within : (ps : List Place) (t : ℕ) → Within (tag_place ps t) (length ps)
 tag_within [] t = tt
 tag_within (p ∷ ps) t = tag_within_when (holds_tag p t) (tag_place ps t) (length ps) (tag_within ps t)
-
--- the same of an answer, by the number of slots in use
-pub answer_within : (p : Places) (o place : Option ℕ) → place ≡ o → Within o (length (row p)) → Within place p.len
-answer_within p o place e h =
-    subst (λ (n : ℕ). Within place n) (row_length p) (subst (λ (q : Option ℕ). Within q (length (row p))) (sym e) h)

@@ -1,11 +1,10 @@
 -- What the two bottoms mean, and what their openings give.
-use Rattle.std.specs.Prelude.{ℕ, Bool, true, false, List, [], nat_lt}
+use Rattle.std.specs.Prelude.{ℕ, Bool, List, [], nat_lt}
 use Rattle.pile.specs.Answers.{Place}
 use Rattle.pile.specs.Meaning.{Meaning}
 use Rattle.pile.specs.Opening.{taken_size}
-use Rattle.bottoms.specs.Row.{row}
-use Rattle.bottoms.specs.declared.paired.Paired.{Paired}
-use Rattle.bottoms.specs.declared.entries_only.EntriesOnly.{EntriesOnly}
+use Rattle.bottoms.specs.declared.bottom.Bottom.{Bottom}
+use Rattle.bottoms.specs.declared.bottom.Leaves.{Ghosts}
 
 -- a bottom counts every class, and a class is 0 to 7
 abbrev pub all_classes : ℕ → Bool
@@ -22,13 +21,9 @@ bottom leaves bound live unpaired places =
       places = places;
     }
 
--- the paired bottom takes leaves
-abbrev pub paired_meaning : Paired → Meaning
-paired_meaning p = bottom true p.bound p.live p.unpaired (row p.places)
-
--- the entries-only bottom takes none, and no leave is ever unpaired
-abbrev pub entries_only_meaning : EntriesOnly → Meaning
-entries_only_meaning p = bottom false p.bound p.live 0 (row p.places)
+-- what a bottom means, whose kind tells whether it takes leaves
+abbrev pub bottom_meaning : {L : Type 0} {kind : Ghosts L} → Bottom L kind → Meaning
+bottom_meaning {L} {kind} p = bottom kind.TAKEN p.bound p.live p.unpaired p.places
 
 -- a bottom as it is opened
 abbrev pub opened : (leaves : Bool) (bound : ℕ) → Meaning

@@ -1,2 +1,1 @@
 pub mod Bottoms
-pub mod Row

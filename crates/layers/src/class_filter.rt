@@ -9,7 +9,7 @@ use pile::{EntryReceipt, LeaveReceipt, Pile, PileFault, PlaceState, Tag};
 // Counts a class exactly if its own set and the pile below both count it.
 #[derive(Drop)]
 pub struct ClassFilter<P> {
-    // bit c stands for class c
+    // bit c stands for class c: the byte that a host has, and each byte has its answer
     classes: u8,
     below: P,
 }
@@ -51,7 +51,7 @@ impl<P: Pile> Pile for ClassFilter<P> {
         self.below.counts()
     }
 
-    fn place(&self, i: u8) -> PlaceState {
+    fn place(&self, i: u8) -> PlaceState<Tag> {
         self.below.place(i)
     }
 

@@ -32,23 +32,16 @@ impl<P: Pile> Front<P> {
     fn shown(&self, place: Option<u8>) -> Option<u8>
         ensures { result ≡ shown_place self.now.size place }
     {
-        match place {
-            Some(i) if i < self.size => Some(i),
-            _ => None,
-        }
+        place.filter(|i| *i < self.size)
     }
 
     // How many of the first places hold a tag.
     fn standing(&self) -> u8
         ensures { result ≡ standing (take self.now.size (P.meaning self.now.below).places) }
     {
-        let mut count = 0;
-        for i in 0..self.size {
-            if let PlaceState::Held(_) = self.below.place(i) {
-                count += 1;
-            }
-        }
-        count
+        (0..self.size)
+            .filter(|i| matches!(self.below.place(*i), PlaceState::Held(_)))
+            .count() as u8
     }
 }
 
@@ -74,7 +67,7 @@ impl<P: Pile> Pile for Front<P> {
         (live, unpaired, self.standing())
     }
 
-    fn place(&self, i: u8) -> PlaceState {
+    fn place(&self, i: u8) -> PlaceState<Tag> {
         if i >= self.size {
             return PlaceState::NoSuchPlace;
         }
@@ -88,9 +81,8 @@ impl<P: Pile> Pile for Front<P> {
     fn entry(&mut self, tag: Tag, class: u8, draw: u16) -> Result<EntryReceipt, PileFault> {
         let entered = self.below.entry(tag, class, draw)?;
         Ok(EntryReceipt {
-            radix: entered.radix,
-            draw: entered.draw,
             place: self.shown(entered.place),
+            ..entered
         })
     }
 

@@ -1,9 +1,5 @@
-use Rattle.bottoms.specs.Row.{row}
-use Rattle.pile.specs.Rules.{hole_place}
-use Rattle.bottoms.proofs.Searches.{answer_within, hole_within}
+use Rattle.bottoms.proofs.Searches.{hole_within}
 use Rattle.bottoms.proofs.places.Places.fill.Goals as goal
 
 pub put-requires : goal.put-requires
-put-requires c =
-    let p = c.args.self.now in
-    answer_within p (hole_place (row p) c.args.draw) c.hole_place-place.result c.hole_place-place.ensures (hole_within (row p) c.args.draw)
+put-requires c = rw c.hole_place-place.ensures (hole_within c.args.self.now c.args.draw)

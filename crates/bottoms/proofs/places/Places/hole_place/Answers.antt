@@ -1,35 +1,16 @@
-use Rattle.std.proofs.Common.{sym, refl, ◌∙◌, arith}
-use Rattle.bottoms.specs.Row.{row}
-use Rattle.pile.specs.Rules.{hole_place}
-use Rattle.bottoms.proofs.Rows.{row_length, moved_none}
-use Rattle.bottoms.proofs.Searches.{hole_pass, hole_skip, hole_found, search_ends}
+use Rattle.std.proofs.Common.{rules, tests, ◌≡◌, option_map}
+use Rattle.std.specs.List.{filter, enumerate_from, slice_get}
+use Rattle.std.proofs.lemmas.Iterator.{YieldsList-from_slice}
+use Rattle.std.proofs.lemmas.Iterator.Consumers.{nth_from_yields_List, YieldsList-from_enumerate, YieldsList-from_filter, YieldsList-at}
+use Rattle.bottoms.proofs.Searches.{is_hole, number_of, hole_nth}
 use Rattle.bottoms.proofs.places.Places.hole_place.Goals as goal
-
-pub loop-i-init : goal.loop-i-init
-loop-i-init c = moved_none (hole_place (row c.args.self.now) c.args.draw)
-
-pub loop-i-preserved-then-is_some : goal.loop-i-preserved-then-is_some
-loop-i-preserved-then-is_some c =
-    let p = c.args.self.now in
-    let i = c.loop-i.i in
-    sym (hole_pass (row p) i c.at.result (omega (arith, row_length p)) c.at.ensures c.loop-i.to_pass (sym c.is_some.ensures ∙ c.if-is_some.true))
-    ∙ c.loop-i.invariant
-
-pub returns-then-to_pass-eq0 : goal.returns-then-to_pass-eq0
-returns-then-to_pass-eq0 c =
-    let p = c.args.self.now in
-    let i = c.loop-i.i in
-    sym (hole_found (row p) i c.at.result (omega (arith, row_length p)) c.at.ensures c.loop-i.to_pass (sym c.is_some.ensures ∙ c.if-is_some.false) c.if-to_pass-eq0.true)
-    ∙ c.loop-i.invariant
-
-pub loop-i-preserved : goal.loop-i-preserved
-loop-i-preserved c =
-    let p = c.args.self.now in
-    let i = c.loop-i.i in
-    sym (hole_skip (row p) i c.at.result (omega (arith, row_length p)) c.at.ensures c.loop-i.to_pass (sym c.is_some.ensures ∙ c.if-is_some.false) c.if-to_pass-eq0.false)
-    ∙ c.loop-i.invariant
 
 pub returns : goal.returns
 returns c =
-    let p = c.args.self.now in
-    sym (search_ends (λ qs. hole_place qs c.loop-i.to_pass) refl (row p) c.loop-i.i (omega (arith, row_length p))) ∙ c.loop-i.invariant
+    let ps = c.args.self.now in
+    let hole : option_map (λ q. (q.0, q.1.now)) c.nth.result ≡ slice_get (filter is_hole (enumerate_from 0 ps)) c.from.result =
+    nth_from_yields_List _ _ _ c.nth.ensures.ran
+    (YieldsList-from_filter _ is_hole (YieldsList-at c.filter.ensures.source (YieldsList-from_enumerate (YieldsList-from_slice ps (cc)) (cc)))
+    c.filter.ensures.closure (λ x r q k. search (rules, tests))) in
+    let same : c.map.result ≡ option_map (λ q. q.0) c.nth.result = search rules in
+    cc (number_of c.nth.result, hole_nth ps c.args.draw)

@@ -1,29 +1,15 @@
-use Rattle.std.proofs.Common.{◌≡◌, ◌+◌, ◌<◌, length, drop, sym, ap, arith}
-use Rattle.std.proofs.lemmas.List.{drop_all}
-use Rattle.pile.specs.Meaning.{standing}
-use Rattle.bottoms.specs.Row.{row}
-use Rattle.bottoms.proofs.Rows.{row_length, read_more, standing_some, standing_none}
+use Rattle.std.proofs.Common.{rules, ◌≡◌, ◌≤◌, is_some, length, arith, count_by}
+use Rattle.std.proofs.lemmas.List.Sums.{count_by-le-length}
+use Rattle.bottoms.proofs.Searches.{standing_count}
 use Rattle.bottoms.proofs.places.Places.standing.Goals as goal
-use Rattle.bottoms.proofs.places.Places.standing.Goals.{then-is_some, else-is_some}
 
-pub loop-i-preserved : goal.loop-i-preserved
-loop-i-preserved c =
-    let ps = row c.args.self.now in
-    let i = c.loop-i.i in
-    let h : i < length ps = omega (arith, row_length c.args.self.now) in
-    let e = ap standing (read_more ps i c.at.result h c.at.ensures) in
-    elim c.if-is_some.branch [
-      | then-is_some w ↦
-          let s = standing_some c.at.result (drop (i + 1) ps) (sym w.if-is_some.ensures) in
-          (omega (arith, w.count-is), omega (arith, w.count-is, e, s))
-      | else-is_some w ↦
-          let s = standing_none c.at.result (drop (i + 1) ps) (sym w.if-is_some.ensures) in
-          (omega (arith, w.count-is), omega (arith, w.count-is, e, s))
-    ]
+pub overflow_cast-result : goal.overflow_cast-result
+overflow_cast-result c =
+    let e : c.count.result ≡ count_by is_some c.args.self.now = search rules in
+    let few : length c.args.self.now ≤ 64 = search rules in
+    omega (arith, count_by-le-length is_some c.args.self.now)
 
 pub returns : goal.returns
 returns c =
-    let ps = row c.args.self.now in
-    let e : standing (drop c.loop-i.i ps) ≡ 0 =
-    ap standing (drop_all c.loop-i.i ps (omega (arith, row_length c.args.self.now))) in
-    omega (arith, e)
+    let e : c.count.result ≡ count_by is_some c.args.self.now = search rules in
+    cc (standing_count c.args.self.now)

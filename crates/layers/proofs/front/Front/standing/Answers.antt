@@ -1,17 +1,15 @@
-use Rattle.std.proofs.Common.{◌≡◌, ap, arith}
-use Rattle.pile.specs.Answers.{place_told}
-use Rattle.layers.specs.Fronts.{held, held_none, standing_next}
+use Rattle.std.proofs.Common.{rules, tests, arith, ◌∙◌}
+use Rattle.std.specs.List.{slice_get}
+use Rattle.std.proofs.lemmas.Iterator.{YieldsList-from_range}
+use Rattle.std.proofs.lemmas.Iterator.Consumers.{YieldsList-from_filter, count_from_yields_List}
+use Rattle.layers.proofs.Fronts.{stands, standing_counted}
 use Rattle.layers.proofs.front.Front.standing.Goals as goal
 
-pub loop-i-preserved : goal.loop-i-preserved
-loop-i-preserved g c =
+pub returns : goal.returns
+returns g c =
+    let size = c.args.self.now.size in
     let ps = (g.P.Pile.meaning c.args.self.now.below).places in
-    let next = standing_next ps c.loop-i.i (place_told c.place.result) c.place.ensures in
-    elim c.match-place.branch [
-      | goal.in-Held w ↦
-          let one : held (place_told c.place.result) ≡ 1 = ap (λ p. held (place_told p)) w.in-Held.is in
-          (omega (arith, w.count-is), omega (arith, w.count-is, one, next))
-      | goal.in_default w ↦
-          let none = held_none c.place.result w.in_default.not-Held in
-          (omega (arith, w.count-is), omega (arith, w.count-is, none, next))
-    ]
+    let numbers = YieldsList-from_range 0 size size c.filter.ensures.source (omega arith) in
+    count_from_yields_List c.filter.result _ c.count.ensures.ran
+    (YieldsList-from_filter _ (λ i. stands (slice_get ps i)) numbers c.filter.ensures.closure (λ x r q k. search (rules, tests)))
+    ∙ standing_counted ps size
