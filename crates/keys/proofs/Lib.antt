@@ -1,3 +1,4 @@
-pub mod Digits
-pub mod Puts
+pub mod KeyLaws
+pub mod NamesLemmas
+pub mod NumbersLemmas
 pub mod Runs

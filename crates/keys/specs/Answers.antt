@@ -1,6 +1,7 @@
 -- What reading a key answers, and the number of each fault.
 -- Every contract of the crate speaks of these answers through these definitions.
 use Rattle.std.specs.Prelude.{ℕ, Bool, true, false, List, length, drop, Some, None, Ok, Err, codes, Option, Result}
+use Rattle.keys.specs.View.{KeyView}
 use Rattle.keys.specs.declared.faults.KeyFault.{KeyFault}
 use Rattle.keys.specs.declared.faults.KeyFault.TheVariants.{Unlawful, Short}
 
@@ -34,6 +35,6 @@ abbrev pub too_short : {K : Type 0} → Reading K
 too_short = refused None
 
 -- what is left after the key that was read: all of it where none was
-abbrev pub left_after : {K : Type 0} → (form : K → List ℕ) → Reading K → List ℕ → List ℕ
-left_after form (read k) bytes = drop (length (form k)) bytes
-left_after form (refused number) bytes = bytes
+abbrev pub left_after : {K : Type 0} → (view : K → KeyView) → Reading K → List ℕ → List ℕ
+left_after view (read k) bytes = drop (length (view k).form) bytes
+left_after view (refused number) bytes = bytes

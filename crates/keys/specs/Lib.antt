@@ -5,6 +5,5 @@ pub mod Names
 pub mod Numbers
 pub mod Sequences
 pub mod Texts
-pub mod KeyLaws
+pub mod View
 pub mod NamesLemmas
-pub mod NumbersLemmas

@@ -1,5 +1,6 @@
 -- The text of a name: what is lawful, and how memory of eight bytes holds it.
-use Rattle.std.specs.Prelude.{ℕ, ◌-◌, Bool, true, ◌&&◌, List, [], ◌∷◌, ◌++◌, length, replicate, nat_le}
+use Rattle.std.specs.Prelude.{◌≡◌, ℕ, ◌-◌, Bool, true, ◌&&◌, List, ◌++◌, length, replicate, nat_le}
+use Rattle.std.specs.List.{list_all}
 
 -- 1 to 8
 abbrev pub lawful_length : ℕ → Bool
@@ -10,8 +11,7 @@ abbrev pub lawful_byte : ℕ → Bool
 lawful_byte b = nat_le 0x21 b && nat_le b 0x7E
 
 abbrev pub lawful_bytes : List ℕ → Bool
-lawful_bytes [] = true
-lawful_bytes (b ∷ bs) = lawful_byte b && lawful_bytes bs
+lawful_bytes bytes = list_all lawful_byte bytes
 
 -- what is lawful: 1 to 8 bytes, each 0x21 to 0x7E
 abbrev pub lawful_text : List ℕ → Bool
@@ -20,3 +20,9 @@ lawful_text text = lawful_length (length text) && lawful_bytes text
 -- the text and then zeros, up to eight bytes
 abbrev pub padded_text : List ℕ → List ℕ
 padded_text text = text ++ replicate (8 - length text) 0
+
+-- eight bytes and a length hold a lawful text
+pub record HoldsText (bytes : List ℕ) (len : ℕ) (text : List ℕ) : Type 0 where
+  pub counted : len ≡ length text
+  pub padded : bytes ≡ padded_text text
+  pub lawful : lawful_text text ≡ true

@@ -4,6 +4,9 @@ ghost use Rattle.keys.specs.Answers.{key_fault_number, key_fault_text};
 
 use std::fmt;
 
+// The number is asked for by name, and is no conversion into a byte, which would not say what the byte is. The words are written out,
+// since a derive that writes them promises nothing of them; an impl for all faults would still want one text for each.
+
 #[derive(Clone, Copy, PartialEq, Eq, Debug)]
 pub enum KeyFault {
     // the bytes there are no key of the kind

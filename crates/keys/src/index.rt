@@ -12,9 +12,5 @@ pub fn mix(index: u16, byte: u8) -> u16
 pub fn mix_all(start: u16, bytes: &[u8]) -> u16
     ensures { result ≡ mixed_all start bytes.now }
 {
-    let mut index = start;
-    for byte in bytes {
-        index = mix(index, *byte);
-    }
-    index
+    bytes.iter().fold(start, |index, byte| mix(index, *byte))
 }

@@ -6,13 +6,13 @@ ghost use Rattle.keys.specs.Bytes.{fits, put_from};
 
 use crate::key::Key;
 
-// What `same` answers decides whether two lawful keys are equal.
+// Comparing byte forms, as `==` does, decides whether two lawful keys are equal.
 pub fn same_decides<K: Key>()
-    ensures { (a b : K) → K.lawful a ≡ true → K.lawful b ≡ true → Decides (bytes_eq (K.form a) (K.form b)) (a ≡ b) }
+    ensures { (a b : K) → (K.view a).lawful ≡ true → (K.view b).lawful ≡ true → Decides (bytes_eq (K.view a).form (K.view b).form) (a ≡ b) }
 {}
 
 // A written key reads back, and the rest is what stood after it.
 pub fn written_key_reads_back<K: Key>()
-    ensures key { (k : K) (buffer : List ℕ) (at : ℕ) → K.lawful k ≡ true → fits (K.form k) buffer at ≡ true → K.reading (put_from (K.form k) buffer at) ≡ read k }
-    ensures rest { (k : K) (buffer : List ℕ) (at : ℕ) → K.lawful k ≡ true → fits (K.form k) buffer at ≡ true → left_after K.form (K.reading (put_from (K.form k) buffer at)) (put_from (K.form k) buffer at) ≡ drop (at + length (K.form k)) buffer }
+    ensures key { (k : K) (buffer : List ℕ) (at : ℕ) → (K.view k).lawful ≡ true → fits (K.view k).form buffer at ≡ true → K.reading (put_from (K.view k).form buffer at) ≡ read k }
+    ensures rest { (k : K) (buffer : List ℕ) (at : ℕ) → (K.view k).lawful ≡ true → fits (K.view k).form buffer at ≡ true → left_after K.view (K.reading (put_from (K.view k).form buffer at)) (put_from (K.view k).form buffer at) ≡ drop (at + length (K.view k).form) buffer }
 {}

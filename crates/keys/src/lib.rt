@@ -1,17 +1,17 @@
 // Keys of two kinds behind one trait.
 //
 // `Key` is the interface: byte form, class, index number, what is lawful, reading and writing. `Number` (1 to 65,535) and
-// `Name` (1 to 8 bytes) keep it. `Printed` says how a key prints; `Display` agrees with it. `read_keys` reads keys of any
-// kind one after another.
+// `Name` (1 to 8 bytes) keep it; a contract sees a number as its value, and a name as its text. `Printed` says how a key
+// prints; `Display` agrees with it. `read_keys` reads keys of any kind one after another.
 //
 // Promised, for every input: what each call answers and what then stands in every buffer is given by the definitions
-// below; lawful keys are equal exactly when their byte forms are, no byte form begins another one, and what was written
-// reads back. Nothing here allocates or panics.
+// below; `==` compares byte forms, lawful keys are equal exactly when theirs are, no byte form begins another one, and
+// what was written reads back. Nothing here allocates or panics.
 //
-// Definitions: specs/Answers.antt says what reading answers and which number a fault has, specs/Bytes.antt what a buffer
-// holds after bytes were put into it, specs/Numbers.antt, specs/Texts.antt and specs/Names.antt what the two kinds are,
-// specs/Index.antt what the index number is, specs/Sequences.antt what keys one after another are. The laws stand in
-// src/key.rt, and what follows from them for every kind in src/laws.rt.
+// Definitions: specs/View.antt says what the rules see of a key, specs/Answers.antt what reading answers and which number
+// a fault has, specs/Bytes.antt what a buffer holds after bytes were put into it, specs/Numbers.antt, specs/Texts.antt and
+// specs/Names.antt what the two kinds are, specs/Index.antt what the index number is, specs/Sequences.antt what keys one
+// after another are. The laws stand in src/key.rt, and what follows from them for every kind in src/laws.rt.
 
 #![tactic(auto)]
 

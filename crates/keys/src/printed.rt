@@ -5,7 +5,7 @@ ghost use Rattle.keys.specs.Bytes.{put_count, put_buffer};
 use crate::key::Key;
 use std::fmt;
 
-// Kinds of key that print into lent memory, as `Display` prints them.
+// Kinds of key that print into lent memory, as `Display` prints them, but whole or not at all.
 pub trait Printed: Key + fmt::Display {
     // the bytes that a key prints as
     ghost printed: { Self → List ℕ };
@@ -19,5 +19,5 @@ pub trait Printed: Key + fmt::Display {
     ghost agrees: { (k : Self) → Self.Display.output k ≡ Some (printed k) };
 
     // They are 1 to 8.
-    ghost brief: { (k : Self) → Self.Key.lawful k ≡ true → (1 ≤ length (printed k)) × (length (printed k) ≤ 8) };
+    ghost brief: { (k : Self) → (Self.Key.view k).lawful ≡ true → (1 ≤ length (printed k)) × (length (printed k) ≤ 8) };
 }

@@ -8,19 +8,17 @@ use crate::key::Key;
 // Reads keys one after another, as many as there is room for, up to the first that cannot be read; answers how many.
 // Byte forms of lawful keys, one after another, read back as those keys.
 pub fn read_keys<K: Key>(bytes: &[u8], into: &mut [K]) -> usize
-    ensures count { result ≡ length (keys_in K.form K.reading (length into.old) bytes.now) }
-    ensures after { into.new ≡ keys_in K.form K.reading (length into.old) bytes.now ++ drop result into.old }
-    ensures back { (keys : List K) (rest : List ℕ) → AllByRecursion (λ k. K.lawful k ≡ true) keys → length keys ≡ length into.old → bytes.now ≡ flat_map K.form keys ++ rest → into.new ≡ keys }
+    ensures count { result ≡ length (keys_in K.view K.reading (length into.old) bytes.now) }
+    ensures after { into.new ≡ keys_in K.view K.reading (length into.old) bytes.now ++ drop result into.old }
+    ensures back { (keys : List K) (rest : List ℕ) → AllByRecursion (λ k. (K.view k).lawful ≡ true) keys → length keys ≡ length into.old → bytes.now ≡ flat_map (λ k. (K.view k).form) keys ++ rest → into.new ≡ keys }
 {
     let mut left = bytes;
-    let mut count = 0;
-    while count < into.len() {
+    for (count, slot) in into.iter_mut().enumerate() {
         let Ok(key) = K::read(left) else {
             return count;
         };
-        into[count] = key;
+        *slot = key;
         left = K::rest(left);
-        count += 1;
     }
-    count
+    into.len()
 }

@@ -44,6 +44,5 @@ fn keys_in_a_row(rt: HostRuntime) {
     assert_eq!(rt; Number::new(7).write(&mut log, 4), None);
     let mut keys = [Number::new(0); 3];
     assert_eq!(rt; read_keys(&log, &mut keys), 2);
-    assert!(rt; keys[0].same(&Number::new(300)));
-    assert!(rt; keys[1].same(&Number::new(7)));
+    assert!(rt; keys[..2] == [Number::new(300), Number::new(7)]);
 }

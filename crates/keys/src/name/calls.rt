@@ -1,12 +1,11 @@
 // What a name does as a key.
-ghost use Rattle.std.specs.Prelude.{◌≡◌, ◌≤◌, ◌∷◌, length};
+ghost use Rattle.std.specs.Prelude.{◌≡◌, ◌≤◌, true, ◌∷◌, length};
 ghost use Rattle.keys.specs.Answers.{read_told};
-ghost use Rattle.keys.specs.Index.{index_of};
-ghost use Rattle.keys.specs.Names.{name_text, name_form, lawful_name, class_by, name_class, named, name_reading};
+ghost use Rattle.keys.specs.Names.{name_view, class_by, named, name_reading};
 ghost use Rattle.keys.specs.Texts.{lawful_length, lawful_byte, lawful_bytes, lawful_text, padded_text};
-ghost use Rattle.keys.specs.KeyLaws.{equal_from_back, apart_from_back};
-ghost use Rattle.keys.specs.NamesLemmas.{name_back, name_bytes, name_begins};
+ghost use Rattle.keys.specs.NamesLemmas.{text_bytes, text_from_padded};
 ghost use Rattle.std.proofs.Common.{rules};
+ghost use Rattle.std.proofs.lemmas.Grind.{common_steps};
 
 use super::Name;
 use crate::bytes::put;
@@ -17,24 +16,19 @@ use crate::key::Key;
 fn is_lawful_length(len: usize) -> bool
     ensures { result ≡ lawful_length len }
 {
-    len >= 1 && len <= 8
+    (1..=8).contains(&len)
 }
 
 fn is_lawful_byte(byte: u8) -> bool
     ensures { result ≡ lawful_byte byte }
 {
-    byte >= 0x21 && byte <= 0x7E
+    matches!(byte, 0x21..=0x7E)
 }
 
 fn are_lawful(bytes: &[u8]) -> bool
     ensures { result ≡ lawful_bytes bytes.now }
 {
-    for byte in bytes {
-        if !is_lawful_byte(*byte) {
-            return false;
-        }
-    }
-    true
+    bytes.iter().all(|byte| is_lawful_byte(*byte))
 }
 
 fn is_lawful_text(text: &[u8]) -> bool
@@ -49,7 +43,7 @@ fn pad(text: &[u8]) -> [u8; 8]
     ensures { result ≡ padded_text text.now }
 {
     let mut bytes = [0; 8];
-    bytes[0..text.len()].copy_from_slice(text);
+    bytes[..text.len()].copy_from_slice(text);
     bytes
 }
 
@@ -66,7 +60,7 @@ fn class_by(first: u8) -> u8
 }
 
 impl Name {
-    // The name of the text, if that is lawful.
+    // The name of the text, if that is lawful. A `TryFrom` beside it would promise the same, as a second way to one thing.
     pub fn new(text: &[u8]) -> Result<Name, KeyFault>
         ensures { read_told result ≡ named text.now }
     {
@@ -81,34 +75,31 @@ impl Name {
 
     // The bytes of the name.
     pub fn text(&self) -> &[u8]
-        ensures { result.now ≡ name_text self.now }
+        ensures text { result.now ≡ self.now }
+        ensures lawful { lawful_text self.now ≡ true }
     {
-        &self.bytes[0..usize::from(self.len)]
+        &self.bytes[..usize::from(self.len)]
     }
 
-    // The byte form, and zeros after it.
+    // The byte form, and zeros after it; the library has no name for it.
     fn to_bytes(&self) -> [u8; 9]
-        ensures { result ≡ self.now.len ∷ self.now.bytes }
+        ensures { result ≡ length self.now ∷ padded_text self.now }
     {
         let mut form = [0; 9];
         form[0] = self.len;
-        form[1..9].copy_from_slice(&self.bytes);
+        form[1..].copy_from_slice(&self.bytes);
         form
     }
 }
 
 impl Key for Name {
-    ghost form = { name_form };
-
-    ghost lawful = { lawful_name };
-
-    ghost class = { name_class };
-
-    ghost index = { λ n. index_of (name_form n) };
+    ghost view = { name_view };
 
     ghost reading = { name_reading };
 
-    ghost equal = { equal_from_back name_form lawful_name name_reading name_back };
+    ghost same = { Prim.search (rules, common_steps, text_from_padded) };
+
+    ghost equal = { Prim.search rules };
 
     ghost alike = { Prim.search rules };
 
@@ -116,18 +107,22 @@ impl Key for Name {
 
     ghost sizes = { Prim.search rules };
 
-    ghost bytes = { λ n l. name_bytes n };
+    ghost bytes = { Prim.search (rules, text_bytes) };
 
-    ghost apart = { apart_from_back name_form lawful_name name_reading name_back };
+    ghost apart = { Prim.search (rules, common_steps) };
 
-    ghost back = { name_back };
+    ghost back = { Prim.search (rules, common_steps) };
 
     ghost found = { Prim.search rules };
 
-    ghost begins = { name_begins };
+    ghost begins = { Prim.search (rules, common_steps) };
 
-    // only lawful names can be made
-    fn is_lawful(&self) -> bool {
+    // Only lawful names can be made, and the look at a field shows that to the proof.
+    fn is_lawful(&self) -> bool
+        ensures value { result ≡ lawful_text self.now }
+        ensures always { result ≡ true }
+    {
+        let _ = &self.len;
         true
     }
 
@@ -139,8 +134,8 @@ impl Key for Name {
         mix_all(mix(0, self.len), self.text())
     }
 
-    fn same(&self, other: &Name) -> bool {
-        self.text() == other.text()
+    fn size(&self) -> usize {
+        1 + usize::from(self.len)
     }
 
     fn read(bytes: &[u8]) -> Result<Name, KeyFault> {
@@ -154,18 +149,11 @@ impl Key for Name {
         if rest.len() < len {
             return Err(KeyFault::Short);
         }
-        Name::new(&rest[0..len])
-    }
-
-    fn rest(bytes: &[u8]) -> &[u8] {
-        match Name::read(bytes) {
-            Ok(name) => &bytes[1 + usize::from(name.len)..],
-            Err(_) => bytes,
-        }
+        Name::new(&rest[..len])
     }
 
     fn write(&self, into: &mut [u8], at: usize) -> Option<usize> {
         let form = self.to_bytes();
-        put(into, at, &form[0..1 + usize::from(self.len)])
+        put(into, at, &form[..self.size()])
     }
 }

@@ -1,6 +1,6 @@
 // A name prints as its text.
 ghost use Rattle.std.specs.Prelude.{◌≡◌, Some};
-ghost use Rattle.keys.specs.Names.{name_text, name_printed};
+ghost use Rattle.keys.specs.Names.{name_printed};
 ghost use Rattle.std.proofs.Common.{rules};
 
 use super::Name;
@@ -10,14 +10,12 @@ use std::fmt;
 use std::str::from_utf8;
 
 impl Name {
+    #[tactic(auto, using(crate::specs::NamesLemmas::text_utf8))]
     pub fn as_str(&self) -> &str
-        ensures { result.now ≡ name_text self.now }
+        ensures { result.now ≡ self.now }
     {
-        match from_utf8(self.text()) {
-            Ok(text) => text,
-            // every byte of a name is ASCII
-            Err(_) => unreachable(),
-        }
+        // every byte of a name is ASCII
+        from_utf8(self.text()).unwrap()
     }
 }
 

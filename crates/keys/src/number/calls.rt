@@ -1,10 +1,7 @@
 // What a number does as a key.
 ghost use Rattle.std.specs.Prelude.{◌≡◌};
-ghost use Rattle.std.proofs.Common.{ap, rules};
-ghost use Rattle.keys.specs.Index.{index_of};
-ghost use Rattle.keys.specs.Numbers.{number_form, lawful_number, number_class, number_reading};
-ghost use Rattle.keys.specs.KeyLaws.{equal_from_back, apart_from_back};
-ghost use Rattle.keys.specs.NumbersLemmas.{number_back, number_class_below, number_bytes, number_found, number_begins};
+ghost use Rattle.std.proofs.Common.{rules};
+ghost use Rattle.keys.specs.Numbers.{number_view, number_reading};
 
 use super::Number;
 use crate::bytes::put;
@@ -13,50 +10,38 @@ use crate::index::mix_all;
 use crate::key::Key;
 
 impl Number {
-    // The number; 0 is not a lawful one.
+    // The number; 0 is not a lawful one. A `From` beside it would promise the same, as a second way to one thing.
     pub fn new(value: u16) -> Number
-        ensures { result.value ≡ value }
+        ensures { result ≡ value }
     {
         Number { value }
-    }
-
-    fn to_bytes(self) -> [u8; 2]
-        ensures { result ≡ number_form self }
-    {
-        [(self.value / 256) as u8, (self.value % 256) as u8]
     }
 }
 
 impl Key for Number {
-    ghost form = { number_form };
-
-    ghost lawful = { lawful_number };
-
-    ghost class = { number_class };
-
-    ghost index = { λ n. index_of (number_form n) };
+    ghost view = { number_view };
 
     ghost reading = { number_reading };
 
-    ghost equal = { equal_from_back number_form lawful_number number_reading number_back };
+    ghost same = { Prim.search rules };
 
-    ghost alike = { λ a b la lb e.
-        let same = equal_from_back number_form lawful_number number_reading number_back a b la lb e in
-        (ap number_class same, ap index_of e) };
+    ghost equal = { Prim.search rules };
 
-    ghost classes = { λ n l. number_class_below n };
+    ghost alike = { Prim.search rules };
+
+    ghost classes = { Prim.search rules };
 
     ghost sizes = { Prim.search rules };
 
-    ghost bytes = { number_bytes };
+    ghost bytes = { Prim.search rules };
 
-    ghost apart = { apart_from_back number_form lawful_number number_reading number_back };
+    ghost apart = { Prim.search rules };
 
-    ghost back = { number_back };
+    ghost back = { Prim.search rules };
 
-    ghost found = { number_found };
+    ghost found = { Prim.search rules };
 
-    ghost begins = { number_begins };
+    ghost begins = { Prim.search rules };
 
     fn is_lawful(&self) -> bool {
         self.value >= 1
@@ -71,34 +56,25 @@ impl Key for Number {
     }
 
     fn index(&self) -> u16 {
-        mix_all(0, &self.to_bytes())
+        mix_all(0, &self.value.to_be_bytes())
     }
 
-    fn same(&self, other: &Number) -> bool {
-        self.value == other.value
+    fn size(&self) -> usize {
+        2
     }
 
     fn read(bytes: &[u8]) -> Result<Number, KeyFault> {
-        let [high, low, ..] = bytes else {
+        let &[high, low, ..] = bytes else {
             return Err(KeyFault::Short);
         };
-        let number = Number {
-            value: u16::from(*high) * 256 + u16::from(*low),
-        };
+        let number = Number::new(u16::from_be_bytes([high, low]));
         if !number.is_lawful() {
             return Err(KeyFault::Unlawful);
         }
         Ok(number)
     }
 
-    fn rest(bytes: &[u8]) -> &[u8] {
-        match Number::read(bytes) {
-            Ok(_) => &bytes[2..],
-            Err(_) => bytes,
-        }
-    }
-
     fn write(&self, into: &mut [u8], at: usize) -> Option<usize> {
-        put(into, at, &self.to_bytes())
+        put(into, at, &self.value.to_be_bytes())
     }
 }

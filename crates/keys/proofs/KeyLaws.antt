@@ -1,6 +1,7 @@
 -- What follows for every kind once its byte forms read back.
-use Rattle.std.specs.Prelude.{◌≡◌, ℕ, Bool, true, false, List, [], ◌++◌, Some, Option, ◌≢◌, refl}
-use Rattle.std.proofs.Common.{sym, ap, ◌∙◌, append-nil, append_assoc, arith}
+use Rattle.std.specs.Prelude.{◌≡◌, ℕ, Bool, true, List, [], ◌++◌, Option, ◌≢◌}
+use Rattle.std.proofs.Common.{rules}
+use Rattle.std.proofs.lemmas.Grind.{common_steps}
 use Rattle.std.proofs.lemmas.List.{append_cancel_left}
 use Rattle.keys.specs.Answers.{Reading, read, refused, read_if}
 
@@ -8,24 +9,18 @@ pub same_read : {K : Type 0} (a b : K) → read a ≡ read b → a ≡ b
 same_read a b e = cc
 
 pub not_read : {K : Type 0} (number : Option ℕ) (k : K) → refused number ≢ read k
-not_read number k e = let z : ◌≡◌ {A = ℕ} 0 1 = cc in omega arith
+not_read number k e = search rules
 
 -- a key that comes of a test passed it
 pub passed : {K : Type 0} (test : Bool) (made k : K) → read_if test made ≡ read k → (test ≡ true) × (made ≡ k)
-passed true made k e = (refl, same_read made k e)
-passed false made k e = absurd (not_read (Some 6) k e)
+passed test made k e = search rules
 
 module _ {K : Type 0} (form : K → List ℕ) (lawful : K → Bool) (reading : List ℕ → Reading K) (back : (k : K) (rest : List ℕ) → lawful k ≡ true → reading (form k ++ rest) ≡ read k) where
   pub equal_from_back : (a b : K) → lawful a ≡ true → lawful b ≡ true → form a ≡ form b → a ≡ b
-  equal_from_back a b la lb e =
-      same_read a b (sym (back a [] la) ∙ ap (λ f. reading (f ++ [])) e ∙ back b [] lb)
+  equal_from_back a b la lb e = let one = back a [] la in let two = back b [] lb in search (rules, common_steps)
 
   pub apart_from_back : (a b : K) (more : List ℕ) → lawful a ≡ true → lawful b ≡ true → form b ≡ form a ++ more → more ≡ []
   apart_from_back a b more la lb e =
-      let one : read a ≡ read b =
-      sym (back a (more ++ []) la)
-      ∙ ap reading (sym (append_assoc (form a) more []))
-      ∙ ap (λ f. reading (f ++ [])) (sym e)
-      ∙ back b [] lb
-      in
-      append_cancel_left (form a) more [] (sym e ∙ ap form (sym (same_read a b one)) ∙ sym (append-nil (form a)))
+      let one = back a more la in
+      let two = back b [] lb in
+      append_cancel_left (form a) more [] (search (rules, common_steps))
