@@ -1,5 +1,2 @@
-pub mod Entries
 pub mod Lists
-pub mod Questions
 pub mod ReadBack
-pub mod Steps

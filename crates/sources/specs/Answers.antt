@@ -1,5 +1,6 @@
 -- What the answers of the crate say. Every contract speaks of faults through these definitions.
-use Rattle.std.specs.Prelude.{ℕ, Bool, false, ◌&&◌, Ok, Err, Result, ◌==◌, nat_le}
+use Rattle.std.specs.Prelude.{ℕ, Bool, false, ◌&&◌, List, ◌++◌, Ok, Err, codes, Result, ◌==◌, nat_le}
+use Rattle.std.specs.Fmt.{decimal}
 use Rattle.sources.specs.declared.faults.SourceFault.{SourceFault}
 use Rattle.sources.specs.declared.faults.SourceFault.TheVariants.{Radix, NoneLeft, BadRecord, OtherRadix}
 use Rattle.sources.specs.declared.faults.SeedFault.{SeedFault}
@@ -23,6 +24,22 @@ seed_fault_number Zero = 5
 
 abbrev pub write_fault_number : WriteFault → ℕ
 write_fault_number NoRoom = 20
+
+-- how each fault prints; a refused draw also with its byte
+abbrev pub source_fault_words : SourceFault → List ℕ
+source_fault_words (Radix byte) = codes "16: the radix is not 1 to 1024"
+source_fault_words (NoneLeft byte) = codes "17: the tape has no byte left"
+source_fault_words (BadRecord byte) = codes "18: the next record of the tape is not a lawful one"
+source_fault_words (OtherRadix byte) = codes "19: the next record of the tape has another radix"
+
+abbrev pub source_fault_text : SourceFault → List ℕ
+source_fault_text fault = source_fault_words fault ++ (codes " (byte " ++ (decimal (source_refusal fault).byte ++ codes ")"))
+
+abbrev pub seed_fault_text : SeedFault → List ℕ
+seed_fault_text Zero = codes "5: the seed is 0"
+
+abbrev pub write_fault_text : WriteFault → List ℕ
+write_fault_text NoRoom = codes "20: no six bytes are free for a record"
 
 -- what a call for a draw answers
 pub data Answer : Type 0 where

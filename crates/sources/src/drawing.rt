@@ -6,7 +6,8 @@ ghost use Rattle.sources.specs.Drawing.{given_for, put_front, told_refusal};
 use crate::faults::SourceFault;
 use crate::source::Source;
 
-// How many draws were given, and the refusal that ended them, if any.
+// How many draws were given, and the refusal that ended them, if any. No `Result`: after a refusal the count is wanted too. The draws
+// themselves stand in the memory that the host lent.
 #[derive(Clone, Copy)]
 pub struct Drawn {
     pub count: usize,
@@ -22,8 +23,9 @@ pub fn draw_all<S: Source>(source: &mut S, radices: &[u16], draws: &mut [u16]) -
     ensures after { (more : List ℕ) → (S.course source.old).gives (take result.count radices.now ++ more) ≡ all_before (take result.count draws.new) ((S.course source.new).gives more) }
 {
     let count = radices.len().min(draws.len());
-    for i in 0..count {
-        match source.draw(radices[i]) {
+    // the draws go in by index (tried: of draws lent to `zip` nothing is known once the loop is over)
+    for (i, &radix) in radices[..count].iter().enumerate() {
+        match source.draw(radix) {
             Ok(draw) => draws[i] = draw,
             Err(fault) => {
                 return Drawn {

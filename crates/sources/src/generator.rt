@@ -19,11 +19,7 @@ pub struct Generator {
 pub fn ask_seed(seed: u64) -> Result<u64, SeedFault>
     ensures { told_by seed_fault_number result ≡ seed_rule seed }
 {
-    if seed == 0 {
-        Err(SeedFault::Zero)
-    } else {
-        Ok(seed)
-    }
+    (seed != 0).then_some(seed).ok_or(SeedFault::Zero)
 }
 
 fn stepped(state: u64) -> u64
@@ -51,9 +47,7 @@ impl Generator {
     pub fn new(seed: u64) -> Generator
         ensures { result.state ≡ taken_seed seed }
     {
-        Generator {
-            state: if seed == 0 { 1 } else { seed },
-        }
+        Generator { state: seed.max(1) }
     }
 }
 

@@ -8,7 +8,7 @@
 //
 // Definitions: specs/Courses.antt says what a course is, specs/Tapes.antt what a tape gives and specs/Generators.antt what
 // a generator gives, specs/Records.antt what is written, specs/Drawing.antt what drawing for a list leaves,
-// specs/Answers.antt which number and byte each fault has.
+// specs/Answers.antt which number, byte and words each fault has, so that what a fault prints is proved too.
 
 #![tactic(auto)]
 

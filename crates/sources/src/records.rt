@@ -19,35 +19,49 @@ pub struct Record {
 pub fn is_lawful_radix(radix: u16) -> bool
     ensures { result ≡ lawful_radix radix }
 {
-    radix >= 1 && radix <= 1024
+    (1..=1024).contains(&radix)
 }
 
-// The record that the bytes begin with, if they begin with a lawful one.
-pub fn read_record(left: &[u8]) -> Option<Record>
-    ensures { result ≡ read_record left.now }
-{
-    if left.len() < 6 || !left.starts_with(b"DR") {
-        return None;
+impl Record {
+    // The record that the bytes begin with, if they begin with a lawful one.
+    pub fn read(left: &[u8]) -> Option<Record>
+        ensures { result ≡ read_record left.now }
+    {
+        let [r0, r1, d0, d1, ..] = *left.strip_prefix(b"DR")? else {
+            return None;
+        };
+        let radix = u16::from_be_bytes([r0, r1]);
+        let draw = u16::from_be_bytes([d0, d1]);
+        if !is_lawful_radix(radix) || draw >= radix {
+            return None;
+        }
+        Some(Record { radix, draw })
     }
-    let radix = u16::from_be_bytes([left[2], left[3]]);
-    let draw = u16::from_be_bytes([left[4], left[5]]);
-    if !is_lawful_radix(radix) || draw >= radix {
-        return None;
+
+    fn to_bytes(self) -> [u8; 6]
+        ensures { result ≡ record_bytes self.radix self.draw }
+    {
+        let mut bytes = [0; 6];
+        bytes[0..2].copy_from_slice(b"DR");
+        bytes[2..4].copy_from_slice(&self.radix.to_be_bytes());
+        bytes[4..6].copy_from_slice(&self.draw.to_be_bytes());
+        bytes
     }
-    Some(Record { radix, draw })
 }
 
-fn record_of(receipt: EntryReceipt) -> [u8; 6]
-    ensures { result ≡ record_bytes receipt.radix receipt.draw }
-{
-    let mut record = [0; 6];
-    record[0..2].copy_from_slice(b"DR");
-    record[2..4].copy_from_slice(&receipt.radix.to_be_bytes());
-    record[4..6].copy_from_slice(&receipt.draw.to_be_bytes());
-    record
+impl From<EntryReceipt> for Record {
+    ghost from_gives = { λ receipt r. r ≡ record { radix = receipt.radix; draw = receipt.draw } };
+
+    fn from(receipt: EntryReceipt) -> Record {
+        Record {
+            radix: receipt.radix,
+            draw: receipt.draw,
+        }
+    }
 }
 
-// Writes the receipt of an entry as it stands, and answers the offset after the record.
+// Writes the receipt of an entry as it stands, and answers the offset after the record. No crate of keys is known here, so the bytes are
+// put by hand.
 pub fn write_record(
     receipt: EntryReceipt,
     tape: &mut [u8],
@@ -60,7 +74,7 @@ pub fn write_record(
     if tape.len() < 6 || offset > tape.len() - 6 {
         return Err(WriteFault::NoRoom);
     }
-    let record = record_of(receipt);
-    tape[offset..offset + 6].copy_from_slice(&record);
+    let record = Record::from(receipt);
+    tape[offset..offset + 6].copy_from_slice(&record.to_bytes());
     Ok(offset + 6)
 }

@@ -3,7 +3,7 @@ ghost use Rattle.sources.specs.Tapes.{tape_course};
 
 use super::Tape;
 use crate::faults::SourceFault;
-use crate::records::{is_lawful_radix, read_record};
+use crate::records::{Record, is_lawful_radix};
 use crate::source::Source;
 
 impl<'a> Source for Tape<'a> {
@@ -17,7 +17,7 @@ impl<'a> Source for Tape<'a> {
         if byte == self.bytes.len() {
             return Err(SourceFault::NoneLeft(byte));
         }
-        let Some(record) = read_record(&self.bytes[byte..]) else {
+        let Some(record) = Record::read(&self.bytes[byte..]) else {
             return Err(SourceFault::BadRecord(byte));
         };
         if record.radix != radix {
