@@ -1,15 +1,7 @@
 -- What a roster means: who is live, under which tag, and the entry that is open. No draw is in it.
 use Rattle.std.specs.Prelude.{ℕ, zero, suc, ◌+◌, ◌-◌, ◌%◌, Bool, true, false, not, ◌&&◌, List, [], ◌∷◌, length, is_some, Some, None, Option, nat_lt, slice_index_or}
 use Rattle.std.specs.Str.{bytes_eq}
-
--- a key, as the rules look at it
-pub record KeyView : Type 0 where
-  -- its byte form, which tells it from every other key
-  pub form : List ℕ
-  pub class : ℕ
-  -- where a search for it begins
-  pub index : ℕ
-  pub lawful : Bool
+pub use Rattle.keys.specs.View.{KeyView}
 
 -- an entry that was admitted and waits to be settled or withdrawn; its class is the key's
 pub record OpenEntry : Type 0 where

@@ -1,18 +1,13 @@
 -- What a roster over lent records means.
-use Rattle.std.specs.Prelude.{ℕ, Bool, List, map, take, Some, None, Option, slice_index_or}
+use Rattle.std.specs.Prelude.{List, map, take, Some, None, Option, slice_index_or}
+use Rattle.pile.specs.declared.receipts.PlaceState.{PlaceState}
+use Rattle.pile.specs.declared.receipts.PlaceState.TheVariants.{Held, Hole, NoSuchPlace}
 use Rattle.calls.specs.Book.{KeyView, OpenEntry, Book}
 use Rattle.roster.specs.declared.record.Record.{Record}
 use Rattle.roster.specs.declared.record.Record.TheVariants.{Free, Waiting, Live}
-use Rattle.roster.specs.declared.record.KeyState.{KeyState}
-use Rattle.roster.specs.declared.record.KeyState.TheVariants.{Held, Hole, NoSuchPlace}
 use Rattle.roster.specs.declared.record.Pending.{Pending}
 use Rattle.roster.specs.declared.roster.Opening.{Opening}
 use Rattle.roster.specs.declared.roster.Roster.{Roster}
-
--- a key, as the rules look at it, by what its kind says of it
-abbrev pub viewed : {K : Type 0} → (form : K → List ℕ) (lawful : K → Bool) (class index : K → ℕ) → K → KeyView
-viewed form lawful class index key =
-    record { form = form key; class = class key; index = index key; lawful = lawful key }
 
 module _ {K : Type 0} (view : K → KeyView) where
   abbrev pub slot_of : Record K → Option KeyView
@@ -38,7 +33,7 @@ module _ {K : Type 0} (view : K → KeyView) where
   open_told (Some p) = Some (pending_entry p)
 
   -- what the question for the key on a place answers: no such place, a hole, or the key
-  abbrev pub key_told : KeyState K → Option (Option KeyView)
+  abbrev pub key_told : PlaceState K → Option (Option KeyView)
   key_told (Held key) = Some (Some (view key))
   key_told Hole = Some None
   key_told NoSuchPlace = None

@@ -2,11 +2,19 @@
 use Rattle.std.specs.Prelude.{◌≡◌, Ok, Err, Result}
 use Rattle.pile.specs.declared.receipts.EntryReceipt.{EntryReceipt}
 use Rattle.pile.specs.declared.receipts.LeaveReceipt.{LeaveReceipt}
+use Rattle.calls.specs.Calls.{Call, settle, withdraw}
 use Rattle.calls.specs.Steps.{Answer, refusal, slip, entered, withdrawn, left}
 use Rattle.roster.specs.Numbers.{roster_fault_number}
 use Rattle.roster.specs.declared.faults.RosterFault.{RosterFault}
 use Rattle.roster.specs.declared.slip.Slip.{Slip}
 use Rattle.roster.specs.declared.slip.Unsettled.{Unsettled}
+
+-- the calls that spend a slip, by its numbers
+abbrev pub settling : Slip → Call
+settling s = settle s.tag s.class s.radix
+
+abbrev pub withdrawing : Slip → Call
+withdrawing s = withdraw s.tag s.class s.radix
 
 abbrev pub admit_told : Result Slip RosterFault → Answer
 admit_told (Ok s) = slip s.tag s.class s.radix

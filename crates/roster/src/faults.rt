@@ -1,4 +1,5 @@
-// Why a roster, or its opening, refuses. specs/Told.antt gives each fault its number.
+// Why a roster, or its opening, refuses. specs/Numbers.antt gives each fault its number. Numbers are asked for by name, and are no
+// conversions into a byte, which would not say what the byte is.
 ghost use Rattle.std.specs.Prelude.{◌≡◌};
 ghost use Rattle.roster.specs.Numbers.{roster_fault_number, capacity_fault_number};
 ghost use Rattle.roster.specs.declared.faults.RosterFault.TheVariants.{Pile};
@@ -32,7 +33,7 @@ pub enum CapacityFault {
     Capacity,
 }
 
-// A fault of a lower layer travels up whole inside the fault above it.
+// A fault of a lower layer travels up whole inside the fault above it. By hand, since a derive would not promise which fault comes.
 impl From<PileFault> for RosterFault {
     ghost from_gives = { λ fault r. r ≡ Pile fault };
 

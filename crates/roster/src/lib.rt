@@ -18,7 +18,7 @@ pub mod roster;
 pub mod slip;
 
 pub use faults::{CapacityFault, RosterFault};
-pub use record::{KeyState, Pending, Record};
+pub use record::{Pending, Record};
 pub use roster::Roster;
 pub use roster::openings::ask_capacity;
 pub use slip::{Slip, Unsettled};

@@ -10,18 +10,10 @@ pub enum Record<K> {
     Live(K),
 }
 
-// An open entry: its key, which waits in a record, and the numbers of its slip.
+// An open entry: its key, which waits in a record, and the numbers of its slip, each by its own name for hosts.
 #[derive(Clone, Copy)]
 pub struct Pending<K> {
     pub key: K,
     pub tag: u16,
     pub radix: u16,
-}
-
-// The key on a place. A tag that is not live in the roster reads as a hole.
-#[derive(Clone, Copy)]
-pub enum KeyState<K> {
-    Held(K),
-    Hole,
-    NoSuchPlace,
 }

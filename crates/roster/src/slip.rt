@@ -1,7 +1,8 @@
 // The token of an open entry.
 ghost use Rattle.std.specs.Prelude.{◌≡◌};
 
-// Made by an admit alone, and spent by a settle or a withdraw: it can be neither copied nor let go.
+// Made by an admit alone, and spent by a settle or a withdraw: it can be neither copied nor let go. A struct of its numbers, shared
+// with the open entry, would only put one more name before each of them in every clause.
 pub struct Slip {
     pub(crate) tag: u16,
     pub(crate) class: u8,

@@ -4,7 +4,7 @@ ghost use Rattle.pile.specs.Answers.{told_by};
 ghost use Rattle.calls.specs.Book.{new_book};
 ghost use Rattle.roster.specs.Numbers.{capacity_fault_number};
 ghost use Rattle.roster.specs.Opening.{capacity_rule, taken_capacity, opened_book, cleared};
-ghost use Rattle.roster.specs.Rosters.{viewed, book_of};
+ghost use Rattle.roster.specs.Rosters.{book_of};
 
 use super::Roster;
 use crate::faults::CapacityFault;
@@ -15,21 +15,15 @@ use keys::Key;
 pub fn ask_capacity(capacity: u16, records: usize) -> Result<u16, CapacityFault>
     ensures { told_by capacity_fault_number result ≡ capacity_rule capacity records }
 {
-    if capacity >= 1 && capacity <= 1024 && usize::from(capacity) <= records {
-        Ok(capacity)
-    } else {
-        Err(CapacityFault::Capacity)
-    }
+    let passes = (1..=1024).contains(&capacity) && usize::from(capacity) <= records;
+    passes.then_some(capacity).ok_or(CapacityFault::Capacity)
 }
 
 // The capacity that an opening takes: 0 where it did not pass.
 fn capacity_or_none(capacity: u16, records: usize) -> u16
     ensures { result ≡ taken_capacity capacity records }
 {
-    match ask_capacity(capacity, records) {
-        Ok(capacity) => capacity,
-        Err(_) => 0,
-    }
+    ask_capacity(capacity, records).unwrap_or(0)
 }
 
 // None of an earlier use's keys stays in the first records.
@@ -37,16 +31,14 @@ fn clear<K: Copy>(records: &mut [Record<K>], count: usize)
     requires { count ≤ length records.old }
     ensures { records.new ≡ cleared records.old count }
 {
-    for i in 0..count {
-        records[i] = Record::Free;
-    }
+    records[..count].fill(Record::Free);
 }
 
 impl<'a, K: Key> Roster<'a, K> {
     // A new roster over the first records; a capacity that does not pass counts as 0. The other records stay.
     pub fn new(records: &'a mut [Record<K>], capacity: u16) -> Roster<'a, K>
-        ensures meaning { book_of (viewed K.form K.lawful K.class K.index) result ≡ opened_book (taken_capacity capacity (length records.old)) }
-        ensures new { new_book (book_of (viewed K.form K.lawful K.class K.index) result) ≡ true }
+        ensures meaning { book_of K.view result ≡ opened_book (taken_capacity capacity (length records.old)) }
+        ensures new { new_book (book_of K.view result) ≡ true }
         ensures records { result.records.now ≡ cleared records.old (taken_capacity capacity (length records.old)) }
     {
         let capacity = capacity_or_none(capacity, records.len());

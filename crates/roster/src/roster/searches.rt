@@ -1,113 +1,91 @@
 // The questions that only look at the records.
-ghost use Rattle.std.specs.Prelude.{◌≡◌, ◌<◌, length, take, IfSome, Some, None, slice_index_or};
-ghost use Rattle.calls.specs.Book.{turn, live_count, tag_of, free_tag, is_free, holds_form};
-ghost use Rattle.roster.specs.declared.record.Record.TheVariants.{Free};
-ghost use Rattle.roster.specs.Rosters.{viewed, book_of, slot_of};
+ghost use Rattle.std.specs.Prelude.{◌≡◌, ◌<◌, ◌≤◌, Bool, ◌++◌, length, take, drop, position, IfSome, None, Option, slice_index_or};
+ghost use Rattle.calls.specs.Book.{KeyView, seek_all, live_count, tag_of, free_tag, is_free, holds_form};
+ghost use Rattle.roster.specs.Rosters.{book_of, slot_of};
 
-use super::{Opening, Roster};
+use super::Roster;
 use crate::record::Record;
 use keys::Key;
 
 impl<K: Key> Record<K> {
     // Whether this is the record of a live key, and of the one with the same byte form.
-    fn holds(self, key: &K) -> bool
-        ensures { result ≡ holds_form (K.form key.now) (slot_of (viewed K.form K.lawful K.class K.index) self) }
+    fn holds(&self, key: &K) -> bool
+        ensures { result ≡ holds_form (K.view key.now).form (slot_of K.view self.now) }
     {
-        match self {
-            Record::Live(live) => live.same(key),
-            _ => false,
-        }
+        matches!(self, Record::Live(live) if live == key)
     }
 
-    fn is_free(self) -> bool
-        ensures { result ≡ is_free (slot_of (viewed K.form K.lawful K.class K.index) self) }
+    fn is_free(&self) -> bool
+        ensures { result ≡ is_free (slot_of K.view self.now) }
     {
-        match self {
-            Record::Live(_) => false,
-            _ => true,
-        }
+        !matches!(self, Record::Live(_))
     }
 }
 
-// One of the records, whatever the kind of key.
-fn picked<K: Copy>(records: &[Record<K>], i: usize) -> Record<K>
-    requires { i < length records.now }
-    ensures { result ≡ slice_index_or records.now i result }
+// How many items come before the first that passes, from `start` on and then from the first item.
+fn turns<T, F: Fn(&T) -> bool>(items: &[T], start: usize, passes: F) -> Option<usize>
+    requires callable { (state : F) (x : _) → F.pre state x }
+    requires from { start ≤ length items.now }
+    ensures first { (test : T → Bool) → ((x : _) (b : Bool) → F.post passes x b → b ≡ test x.now) → result ≡ position test (drop start items.now ++ take start items.now) }
+    ensures within { IfSome result (λ i. i < length items.now) }
 {
-    records[i]
+    let (before, after) = items.split_at(start);
+    after.iter().chain(before).position(passes)
 }
 
 impl<'a, K: Key> Roster<'a, K> {
-    pub(crate) fn record_at(&self, i: u16) -> Record<K>
-        requires { i < self.now.capacity }
-        ensures value { result ≡ slice_index_or (take self.now.capacity self.now.records.now) i Free }
-        ensures slot { slot_of (viewed K.form K.lawful K.class K.index) result ≡ slice_index_or (book_of (viewed K.form K.lawful K.class K.index) self.now).slots i None }
+    // The records that are slots.
+    pub(crate) fn slots(&self) -> &[Record<K>]
+        ensures records { result.now ≡ take self.now.capacity self.now.records.now }
+        ensures len { length result.now ≡ self.now.capacity }
     {
-        picked(self.records, usize::from(i))
+        &self.records[..usize::from(self.capacity)]
     }
 
-    // The slot that a search looks at after i others.
-    fn turn(&self, start: u16, i: u16) -> u16
-        requires from { start < self.now.capacity }
-        requires more { i < self.now.capacity }
-        ensures value { result ≡ turn start self.now.capacity i }
-        ensures within { result < self.now.capacity }
-    {
-        let at = start + i;
-        if at < self.capacity {
-            at
-        } else {
-            at - self.capacity
-        }
-    }
-
-    // The tag of a live key.
-    pub fn find(&self, key: &K) -> Option<u16>
-        ensures value { result ≡ tag_of (book_of (viewed K.form K.lawful K.class K.index) self.now).slots (viewed K.form K.lawful K.class K.index key.now) }
+    // The first slot that passes, in the order in which a search for the key goes over them.
+    fn search<F: Fn(&Record<K>) -> bool>(&self, key: &K, passes: F) -> Option<u16>
+        requires callable { (state : F) (x : _) → F.pre state x }
+        ensures first { (test : Option KeyView → Bool) → ((x : _) (b : Bool) → F.post passes x b → b ≡ test (slot_of K.view x.now)) → result ≡ seek_all test (book_of K.view self.now).slots (K.view key.now).index }
         ensures within { IfSome result (λ tag. tag < self.now.capacity) }
     {
         if self.capacity == 0 {
             return None;
         }
         let start = key.index() % self.capacity;
-        for i in 0..self.capacity {
-            let tag = self.turn(start, i);
-            if self.record_at(tag).holds(key) {
-                return Some(tag);
-            }
-        }
-        None
+        let i = turns(self.slots(), usize::from(start), passes)? as u16;
+        let to_the_end = self.capacity - start;
+        Some(if i < to_the_end {
+            start + i
+        } else {
+            i - to_the_end
+        })
+    }
+
+    // The tag of a live key. That it is within the slots is said of each search, since callers use the tag as an index; a type of tags would
+    // be one more name for hosts, and would still have to be tied to this roster's capacity.
+    pub fn find(&self, key: &K) -> Option<u16>
+        ensures value { result ≡ tag_of (book_of K.view self.now).slots (K.view key.now) }
+        ensures within { IfSome result (λ tag. tag < self.now.capacity) }
+    {
+        self.search(key, |record| record.holds(key))
     }
 
     // The tag that a key would get.
     pub(crate) fn free(&self, key: &K) -> Option<u16>
-        ensures value { result ≡ free_tag (book_of (viewed K.form K.lawful K.class K.index) self.now).slots (viewed K.form K.lawful K.class K.index key.now) }
+        ensures value { result ≡ free_tag (book_of K.view self.now).slots (K.view key.now) }
         ensures within { IfSome result (λ tag. tag < self.now.capacity) }
-        ensures free { IfSome result (λ tag. slice_index_or (book_of (viewed K.form K.lawful K.class K.index) self.now).slots tag None ≡ None) }
+        ensures free { IfSome result (λ tag. slice_index_or (book_of K.view self.now).slots tag None ≡ None) }
     {
-        if self.capacity == 0 {
-            return None;
-        }
-        let start = key.index() % self.capacity;
-        for i in 0..self.capacity {
-            let tag = self.turn(start, i);
-            if self.record_at(tag).is_free() {
-                return Some(tag);
-            }
-        }
-        None
+        self.search(key, |record| record.is_free())
     }
 
     // How many keys are live.
     pub fn live_count(&self) -> u16
-        ensures { result ≡ live_count (book_of (viewed K.form K.lawful K.class K.index) self.now).slots }
+        ensures { result ≡ live_count (book_of K.view self.now).slots }
     {
-        let mut count = 0;
-        for i in 0..self.capacity {
-            if !self.record_at(i).is_free() {
-                count += 1;
-            }
-        }
-        count
+        self.slots()
+            .iter()
+            .filter(|record| !record.is_free())
+            .count() as u16
     }
 }

@@ -5,14 +5,14 @@ use Rattle.pile.specs.Rules.{radix_rule}
 use Rattle.pile.specs.Answers.{told}
 use Rattle.calls.specs.Calls.{Verdict, admit_radix}
 use Rattle.calls.specs.Steps.{carried_out, gives, slip}
-use Rattle.roster.specs.Rosters.{viewed, book_of}
+use Rattle.roster.specs.Rosters.{book_of}
 use Rattle.roster.specs.Told.{admit_told}
 use Rattle.roster.proofs.Books.{book_with, book_opened, numbers}
 use Rattle.roster.proofs.roster.Roster.admit.Goals as goal
 
 pub returns-in_err-tag : goal.returns-in_err-tag
 returns-in_err-tag g c =
-    let view = viewed g.K.Key.form g.K.Key.lawful g.K.Key.class g.K.Key.index in
+    let view = g.K.Key.view in
     let b = book_of view c.args.self.now in
     let m = g.P.Pile.meaning c.args.pile.now in
     let came = err_from_is_err_and c.from_residual.result c.from_residual.ensures.1 in
@@ -24,7 +24,7 @@ returns-in_err-tag g c =
 
 pub returns : goal.returns
 returns g c =
-    let view = viewed g.K.Key.form g.K.Key.lawful g.K.Key.class g.K.Key.index in
+    let view = g.K.Key.view in
     let p = c.args.self.now in
     let b = book_of view p in
     let m = g.P.Pile.meaning c.args.pile.now in

@@ -1,41 +1,12 @@
-use Rattle.std.proofs.Common.{◌≡◌, ◌-◌, ◌%◌, ◌<◌, get_or, None, sym, ap, ◌∙◌, mod-lt, arith}
+use Rattle.std.proofs.Common.{rules}
 use Rattle.calls.specs.Book.{is_free}
-use Rattle.roster.specs.Rosters.{viewed, book_of}
-use Rattle.roster.proofs.Slots.{slots_length, seek_begins, seek_found, seek_pass, seek_ends, free_slot}
+use Rattle.roster.specs.Rosters.{book_of}
+use Rattle.roster.proofs.Rounds.{found_free}
 use Rattle.roster.proofs.roster.Roster.free.Goals as goal
 
-pub loop-i-init : goal.loop-i-init
-loop-i-init g c =
-    let view = viewed g.K.Key.form g.K.Key.lawful g.K.Key.class g.K.Key.index in
-    let p = c.args.self.now in
-    let len = slots_length view p.records.now p.capacity p.within in
-    let some : 0 < p.capacity = omega arith in
-    (mod-lt _ some, seek_begins (is_free) (book_of view p).slots p.capacity (view c.args.key.now).index _ len (ap (λ k. k % p.capacity) c.index.ensures))
+pub returns-clause-value : goal.returns-clause-value
+returns-clause-value g c = c.search.ensures.first is_free (λ x b post. search rules)
 
-pub returns-then-is_free : goal.returns-then-is_free
-returns-then-is_free g c =
-    let view = viewed g.K.Key.form g.K.Key.lawful g.K.Key.class g.K.Key.index in
-    let p = c.args.self.now in
-    let len = slots_length view p.records.now p.capacity p.within in
-    let passes = ap (is_free) (sym c.record_at.ensures.slot) ∙ sym c.is_free.ensures ∙ c.if-is_free.true in
-    record {
-      value = sym (seek_found (is_free) (book_of view p).slots p.capacity (c.index.result % p.capacity) c.loop-i.i c.turn-tag.result len c.loop-i-test.true c.turn-tag.ensures.value passes)
-          ∙ c.loop-i.invariant.1;
-      within = c.turn-tag.ensures.within;
-      free = free_slot (get_or (book_of view p).slots c.turn-tag.result None) passes;
-    }
-
-pub loop-i-preserved : goal.loop-i-preserved
-loop-i-preserved g c =
-    let view = viewed g.K.Key.form g.K.Key.lawful g.K.Key.class g.K.Key.index in
-    let p = c.args.self.now in
-    let len = slots_length view p.records.now p.capacity p.within in
-    let fails = ap (is_free) (sym c.record_at.ensures.slot) ∙ sym c.is_free.ensures ∙ c.if-is_free.false in
-    (c.loop-i.invariant.0, sym (seek_pass (is_free) (book_of view p).slots p.capacity (c.index.result % p.capacity) c.loop-i.i c.turn-tag.result len c.loop-i-test.true c.turn-tag.ensures.value fails) ∙ c.loop-i.invariant.1)
-
-pub returns : goal.returns
-returns g c =
-    let view = viewed g.K.Key.form g.K.Key.lawful g.K.Key.class g.K.Key.index in
-    let p = c.args.self.now in
-    let none : p.capacity - c.loop-i.i ≡ 0 = omega arith in
-    record { value = sym (seek_ends (is_free) (book_of view p).slots (c.index.result % p.capacity) c.loop-i.i (p.capacity - c.loop-i.i) none) ∙ c.loop-i.invariant.1; within = tt; free = tt }
+pub returns-clause-free : goal.returns-clause-free
+returns-clause-free g c =
+    found_free (book_of g.K.Key.view c.args.self.now).slots (g.K.Key.view c.args.key.now) c.search.result (c.search.ensures.first is_free (λ x b post. search rules))

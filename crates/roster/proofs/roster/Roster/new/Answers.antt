@@ -1,14 +1,13 @@
 use Rattle.std.proofs.Common.{length, None, ap, ◌∙◌}
 use Rattle.calls.specs.Book.{new_book}
 use Rattle.roster.specs.Opening.{cleared, opened_book, taken_capacity}
-use Rattle.roster.specs.Rosters.{viewed}
 use Rattle.roster.proofs.Books.{book_with}
 use Rattle.roster.proofs.Clearing.{cleared_slots, opened_new}
 use Rattle.roster.proofs.roster.Roster.new.Goals as goal
 
 pub returns : goal.returns
 returns g c =
-    let view = viewed g.K.Key.form g.K.Key.lawful g.K.Key.class g.K.Key.index in
+    let view = g.K.Key.view in
     let rs = c.args.records.now in
     let n = c.capacity_or_none-capacity.result in
     let taken = c.capacity_or_none-capacity.ensures in

@@ -1,7 +1,7 @@
 use Rattle.std.proofs.Common.{ℕ, set, Some, None, sym, ap, ◌∙◌, arith}
 use Rattle.std.proofs.lemmas.Option.{MatchOption-at_some}
 use Rattle.calls.specs.Steps.{Step, entry_answer}
-use Rattle.roster.specs.Rosters.{viewed, book_of, open_told, pending_entry}
+use Rattle.roster.specs.Rosters.{book_of, open_told, pending_entry}
 use Rattle.roster.specs.declared.record.Record.TheVariants.{Live}
 use Rattle.roster.proofs.Books.{book_with, book_settled}
 use Rattle.roster.proofs.Slips.{slip_fits, settled_step}
@@ -9,7 +9,7 @@ use Rattle.roster.proofs.roster.Roster.settle.Goals as goal
 
 pub returns-in-Ok : goal.returns-in-Ok
 returns-in-Ok g c =
-    let view = viewed g.K.Key.form g.K.Key.lawful g.K.Key.class g.K.Key.index in
+    let view = g.K.Key.view in
     let p = c.args.self.now in
     let b = book_of view p in
     let m = g.P.Pile.meaning c.args.pile.now in
