@@ -1,6 +1,14 @@
 // Draws for a list of radices, from the generator or from a tape.
+use hex::FromHexError;
 use sources::{Generator, Source, Tape, ask_seed, draw_all};
 use std::alloc::{AllocError, Global};
+
+// Where the draws come from.
+#[derive(Drop)]
+enum Origin {
+    Seed(u64),
+    Bytes(Vec<u8>),
+}
 
 // Does what line `number` asks: `draws generator SEED RADIX ..` or `draws tape HEX RADIX ..`.
 pub fn follow(
@@ -11,49 +19,34 @@ pub fn follow(
     what: &str,
     words: &[&str],
 ) -> anyhow::Result<()> {
-    let Some(radices) = read_radices(heap, words)? else {
+    let radices = read_radices(heap, words)?;
+    let origin = read_origin(heap, from, what)?;
+    let (Some(origin), Some(radices)) = (origin, radices) else {
         println!(rt; "line {number}: cannot be read")?;
         return Ok(());
     };
-    match from {
-        "generator" => from_generator(rt, heap, number, what, radices.as_slice()),
-        "tape" => from_tape(rt, heap, number, what, radices.as_slice()),
-        _ => {
-            println!(rt; "line {number}: cannot be read")?;
-            Ok(())
+    match origin {
+        Origin::Seed(seed) => {
+            if let Err(fault) = ask_seed(seed) {
+                println!(rt; "line {number}: refused {fault}")?;
+            }
+            print_draws(rt, heap, &mut Generator::new(seed), radices.as_slice())
         }
+        Origin::Bytes(bytes) => print_draws(
+            rt,
+            heap,
+            &mut Tape::new(bytes.as_slice()),
+            radices.as_slice(),
+        ),
     }
 }
 
-fn from_generator(
-    rt: &impl Print,
-    heap: Global,
-    number: usize,
-    what: &str,
-    radices: &[u16],
-) -> anyhow::Result<()> {
-    let Ok(seed) = what.parse::<u64>() else {
-        println!(rt; "line {number}: cannot be read")?;
-        return Ok(());
-    };
-    if let Err(fault) = ask_seed(seed) {
-        println!(rt; "line {number}: refused {fault}")?;
-    }
-    print_draws(rt, heap, &mut Generator::new(seed), radices)
-}
-
-fn from_tape(
-    rt: &impl Print,
-    heap: Global,
-    number: usize,
-    what: &str,
-    radices: &[u16],
-) -> anyhow::Result<()> {
-    let Some(bytes) = read_hex(heap, what)? else {
-        println!(rt; "line {number}: cannot be read")?;
-        return Ok(());
-    };
-    print_draws(rt, heap, &mut Tape::new(bytes.as_slice()), radices)
+fn read_origin(heap: Global, from: &str, what: &str) -> anyhow::Result<Option<Origin>> {
+    Ok(match from {
+        "generator" => what.parse().ok().map(Origin::Seed),
+        "tape" => read_hex(heap, what)?.map(Origin::Bytes),
+        _ => None,
+    })
 }
 
 fn print_draws<S: Source>(
@@ -78,44 +71,21 @@ fn print_draws<S: Source>(
 fn read_radices(heap: Global, words: &[&str]) -> Result<Option<Vec<u16>>, AllocError> {
     let mut radices = Vec::new(heap);
     for word in words {
-        match word.parse::<u16>() {
-            Ok(radix) => radices.push(radix)?,
-            Err(_) => return Ok(None),
-        }
+        let Ok(radix) = word.parse::<u16>() else {
+            return Ok(None);
+        };
+        radices.push(radix)?;
     }
     Ok(Some(radices))
 }
 
-fn hex_digit(byte: u8) -> Option<u8> {
-    match byte {
-        b'0'..=b'9' => Some(byte - b'0'),
-        b'a'..=b'f' => Some(byte - b'a' + 10),
-        b'A'..=b'F' => Some(byte - b'A' + 10),
-        _ => None,
-    }
-}
-
-fn hex_byte(high: u8, low: u8) -> Option<u8> {
-    let high = hex_digit(high)?;
-    let low = hex_digit(low)?;
-    Some(high.wrapping_mul(16) | low)
-}
-
 // The bytes that pairs of hexadecimal digits spell; `-` stands for no byte.
-fn read_hex(heap: Global, text: &str) -> Result<Option<Vec<u8>>, AllocError> {
-    let mut bytes = Vec::new(heap);
+fn read_hex(heap: Global, text: &str) -> anyhow::Result<Option<Vec<u8>>> {
     if text == "-" {
-        return Ok(Some(bytes));
+        return Ok(Some(Vec::new(heap)));
     }
-    let digits = text.as_bytes();
-    if digits.len() % 2 != 0 {
-        return Ok(None);
+    match hex::decode(heap, text) {
+        Err(error @ FromHexError::OutOfMemory) => Err(error.into()),
+        decoded => Ok(decoded.ok()),
     }
-    for i in 0..digits.len() / 2 {
-        match hex_byte(digits[2 * i], digits[2 * i + 1]) {
-            Some(byte) => bytes.push(byte)?,
-            None => return Ok(None),
-        }
-    }
-    Ok(Some(bytes))
 }

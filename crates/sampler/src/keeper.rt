@@ -8,20 +8,17 @@ use std::alloc::Global;
 #[derive(Drop)]
 pub struct Keeper {
     setting: Setting,
-    sample: Sample,
-    // a setting comes before the first change or reading
-    begun: bool,
+    // opened by the first change or reading; a setting comes before it
+    sample: Option<Sample>,
     // what the entries so far answered, for their tape
     receipts: Vec<EntryReceipt>,
 }
 
 impl Keeper {
     pub fn new(heap: Global) -> Keeper {
-        let setting = Setting::usual();
         Keeper {
-            setting,
-            sample: setting.open(),
-            begun: false,
+            setting: Setting::usual(),
+            sample: None,
             receipts: Vec::new(heap),
         }
     }
@@ -30,7 +27,7 @@ impl Keeper {
         self.setting
     }
 
-    // Does what line `number` of the script asks.
+    // Does what line `number` of the script asks. A match, since each kind of line has other parts.
     pub fn follow(
         &mut self,
         rt: &impl Print,
@@ -39,8 +36,7 @@ impl Keeper {
     ) -> anyhow::Result<()> {
         let old = self.setting;
         match line {
-            Err(LineFault::Unreadable) => println!(rt; "line {number}: cannot be read")?,
-            Err(LineFault::Key(fault)) => println!(rt; "line {number}: refused {fault}")?,
+            Err(fault) => println!(rt; "line {number}: {fault}")?,
             Ok(Line::Blank) => {}
             Ok(Line::Bound(bound)) => self.set(rt, number, Setting { bound, ..old })?,
             Ok(Line::Classes(classes)) => self.set(rt, number, Setting { classes, ..old })?,
@@ -55,7 +51,7 @@ impl Keeper {
     }
 
     fn set(&mut self, rt: &impl Print, number: usize, setting: Setting) -> anyhow::Result<()> {
-        if self.begun {
+        if self.sample.is_some() {
             println!(rt; "line {number}: a setting comes before the first change or reading")?;
             return Ok(());
         }
@@ -66,35 +62,27 @@ impl Keeper {
         Ok(())
     }
 
-    // Opens the sample where this is the first change or reading.
-    fn begin(&mut self, rt: &impl Print) -> anyhow::Result<()> {
-        if self.begun {
-            return Ok(());
+    // The sample, which this opens where it is the first change or reading.
+    fn sample(&mut self, rt: &impl Print) -> anyhow::Result<&mut Sample> {
+        let setting = self.setting;
+        if self.sample.is_none() {
+            announce(rt, &setting.open())?;
         }
-        self.begun = true;
-        self.sample = self.setting.open();
-        let bound = self.sample.bound();
-        print!(rt; "a sample on at most {bound} places, of the classes")?;
-        for class in 0..8u8 {
-            if self.sample.counts_class(class) {
-                print!(rt; " {class}")?;
-            }
-        }
-        println!(rt; "")?;
-        Ok(())
+        Ok(self.sample.get_or_insert_with(|| setting.open()))
     }
 
     fn enter(&mut self, rt: &impl Print, tag: Tag, who: Who, draw: u16) -> anyhow::Result<()> {
-        self.begin(rt)?;
-        print!(rt; "enter {tag}")?;
-        print_who(rt, who)?;
-        match self.sample.entry(tag, who.class(), draw) {
+        let class = who.class();
+        let answer = self.sample(rt)?.entry(tag, class, draw);
+        print!(rt; "enter {tag}{who} of class {class}: ")?;
+        match answer {
             Err(fault) => println!(rt; "refused {fault}")?,
             Ok(receipt) => {
-                let radix = receipt.radix;
-                match receipt.place {
-                    Some(place) => println!(rt; "radix {radix}, draw {draw}, place {place}")?,
-                    None => println!(rt; "radix {radix}, draw {draw}, no place")?,
+                let EntryReceipt { radix, draw, place } = receipt;
+                print!(rt; "radix {radix}, draw {draw}, ")?;
+                match place {
+                    Some(place) => println!(rt; "place {place}")?,
+                    None => println!(rt; "no place")?,
                 }
                 self.receipts.push(receipt)?;
             }
@@ -103,10 +91,10 @@ impl Keeper {
     }
 
     fn leave(&mut self, rt: &impl Print, tag: Tag, who: Who) -> anyhow::Result<()> {
-        self.begin(rt)?;
-        print!(rt; "leave {tag}")?;
-        print_who(rt, who)?;
-        match self.sample.leave(tag, who.class()) {
+        let class = who.class();
+        let answer = self.sample(rt)?.leave(tag, class);
+        print!(rt; "leave {tag}{who} of class {class}: ")?;
+        match answer {
             Err(fault) => println!(rt; "refused {fault}")?,
             Ok(receipt) => match receipt.place {
                 Some(place) => println!(rt; "place {place} is a hole now")?,
@@ -117,11 +105,12 @@ impl Keeper {
     }
 
     fn read(&mut self, rt: &impl Print) -> anyhow::Result<()> {
-        self.begin(rt)?;
-        let (live, unpaired, standing) = self.sample.counts();
+        let sample = self.sample(rt)?;
+        let (live, unpaired, standing) = sample.counts();
         println!(rt; "read: N {live}, d {unpaired}, {standing} standing")?;
-        for i in 0..self.sample.bound() {
-            match self.sample.place(i) {
+        // a place is asked for by its number, which is printed
+        for i in 0..sample.bound() {
+            match sample.place(i) {
                 PlaceState::Held(tag) => println!(rt; "  {i}: {tag}")?,
                 PlaceState::Hole => println!(rt; "  {i}: hole")?,
                 PlaceState::NoSuchPlace => {}
@@ -132,26 +121,26 @@ impl Keeper {
 
     // The tape of the entries so far, a record to a line.
     fn tape(&mut self, rt: &impl Print) -> anyhow::Result<()> {
-        self.begin(rt)?;
+        self.sample(rt)?;
         println!(rt; "tape:")?;
-        for receipt in self.receipts.iter() {
+        for receipt in &self.receipts {
             print_record(rt, *receipt)?;
         }
         Ok(())
     }
 }
 
-fn print_who(rt: &impl Print, who: Who) -> anyhow::Result<()> {
-    let class = who.class();
-    match who {
-        Who::Class(_) => {}
-        Who::Number(number) => print!(rt; ", number {number}")?,
-        Who::Name(name) => print!(rt; ", name {name}")?,
+fn announce(rt: &impl Print, sample: &Sample) -> anyhow::Result<()> {
+    let bound = sample.bound();
+    print!(rt; "a sample on at most {bound} places, of the classes")?;
+    for class in (0..8u8).filter(|class| sample.counts_class(*class)) {
+        print!(rt; " {class}")?;
     }
-    print!(rt; " of class {class}: ")?;
+    println!(rt; "")?;
     Ok(())
 }
 
+// Of a receipt only its record on a tape is printed, so this is no `Display` of receipts.
 fn print_record(rt: &impl Print, receipt: EntryReceipt) -> anyhow::Result<()> {
     let mut bytes = [0u8; 6];
     // six bytes are free, so this is never refused

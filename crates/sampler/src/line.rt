@@ -1,6 +1,9 @@
 // One line of a script, read.
 use keys::{Key, KeyFault, Name, Number};
 use pile::Tag;
+use std::fmt;
+use std::num::ParseIntError;
+use thiserror::Error;
 
 // What stands between tag and draw on an enter or a leave.
 #[derive(Clone, Copy)]
@@ -38,10 +41,18 @@ pub enum Line {
 }
 
 // Why a line changes nothing.
-#[derive(Clone, Copy)]
+#[derive(Clone, Copy, Debug, Error)]
 pub enum LineFault {
+    #[error("cannot be read")]
     Unreadable,
-    Key(KeyFault),
+    #[error("refused {0}")]
+    Key(#[from] KeyFault),
+}
+
+impl From<ParseIntError> for LineFault {
+    fn from(_: ParseIntError) -> LineFault {
+        LineFault::Unreadable
+    }
 }
 
 impl Who {
@@ -54,53 +65,44 @@ impl Who {
     }
 
     fn read(kind: Kind, word: &str) -> Result<Who, LineFault> {
-        match kind {
-            Kind::Classes => read_class(word),
-            Kind::Numbers => read_number(word),
-            Kind::Names => match Name::new(word.as_bytes()) {
-                Ok(name) => Ok(Who::Name(name)),
-                Err(fault) => Err(LineFault::Key(fault)),
-            },
+        Ok(match kind {
+            Kind::Classes => Who::Class(word.parse()?),
+            Kind::Numbers => Who::Number(read_number(word)?),
+            Kind::Names => Who::Name(Name::new(word.as_bytes())?),
+        })
+    }
+}
+
+// The key, if it is one.
+impl fmt::Display for Who {
+    fn fmt<W: fmt::Write>(&self, f: &mut fmt::Formatter<W>) -> fmt::Result {
+        match self {
+            Who::Class(_) => Ok(()),
+            Who::Number(number) => write!(f, ", number {number}"),
+            Who::Name(name) => write!(f, ", name {name}"),
         }
     }
 }
 
-fn read_class(word: &str) -> Result<Who, LineFault> {
-    match word.parse::<u8>() {
-        Ok(class) => Ok(Who::Class(class)),
-        Err(_) => Err(LineFault::Unreadable),
+fn read_number(word: &str) -> Result<Number, LineFault> {
+    let number = Number::new(word.parse()?);
+    if !number.is_lawful() {
+        return Err(LineFault::Key(KeyFault::Unlawful));
     }
-}
-
-fn read_number(word: &str) -> Result<Who, LineFault> {
-    let number = Number::new(read_u16(word)?);
-    if number.is_lawful() {
-        Ok(Who::Number(number))
-    } else {
-        Err(LineFault::Key(KeyFault::Unlawful))
-    }
-}
-
-fn read_u16(word: &str) -> Result<u16, LineFault> {
-    match word.parse::<u16>() {
-        Ok(n) => Ok(n),
-        Err(_) => Err(LineFault::Unreadable),
-    }
+    Ok(number)
 }
 
 // A setting's number: one above 255 cannot pass either, and counts as 255.
 fn read_size(word: &str) -> Result<u8, LineFault> {
-    match word.parse::<u32>() {
-        Ok(n) => Ok(n.min(255) as u8),
-        Err(_) => Err(LineFault::Unreadable),
-    }
+    let size: u32 = word.parse()?;
+    Ok(size.min(255) as u8)
 }
 
 // The class set that names each of these classes, 0 to 7.
 fn read_classes(words: &[&str]) -> Result<u8, LineFault> {
     let mut set = 0u8;
     for word in words {
-        let class = read_u16(word)?;
+        let class: u16 = word.parse()?;
         if class > 7 {
             return Err(LineFault::Unreadable);
         }
@@ -111,25 +113,24 @@ fn read_classes(words: &[&str]) -> Result<u8, LineFault> {
 
 // The line that these words make, where keys are of this kind.
 pub fn parse(kind: Kind, words: &[&str]) -> Result<Line, LineFault> {
-    match words {
-        [] => Ok(Line::Blank),
-        ["#", ..] => Ok(Line::Blank),
-        ["bound", n] => Ok(Line::Bound(read_size(n)?)),
-        ["classes", rest @ ..] => Ok(Line::Classes(read_classes(rest)?)),
-        ["front", n] => Ok(Line::Front(read_size(n)?)),
-        ["kind", "numbers"] => Ok(Line::Kind(Kind::Numbers)),
-        ["kind", "names"] => Ok(Line::Kind(Kind::Names)),
-        ["enter", tag, who, draw] => Ok(Line::Enter {
-            tag: read_u16(tag)?,
+    Ok(match words {
+        [] | ["#", ..] => Line::Blank,
+        ["bound", n] => Line::Bound(read_size(n)?),
+        ["classes", rest @ ..] => Line::Classes(read_classes(rest)?),
+        ["front", n] => Line::Front(read_size(n)?),
+        ["kind", "numbers"] => Line::Kind(Kind::Numbers),
+        ["kind", "names"] => Line::Kind(Kind::Names),
+        ["enter", tag, who, draw] => Line::Enter {
+            tag: tag.parse()?,
             who: Who::read(kind, who)?,
-            draw: read_u16(draw)?,
-        }),
-        ["leave", tag, who] => Ok(Line::Leave {
-            tag: read_u16(tag)?,
+            draw: draw.parse()?,
+        },
+        ["leave", tag, who] => Line::Leave {
+            tag: tag.parse()?,
             who: Who::read(kind, who)?,
-        }),
-        ["read"] => Ok(Line::Read),
-        ["tape"] => Ok(Line::Tape),
-        _ => Err(LineFault::Unreadable),
-    }
+        },
+        ["read"] => Line::Read,
+        ["tape"] => Line::Tape,
+        _ => return Err(LineFault::Unreadable),
+    })
 }

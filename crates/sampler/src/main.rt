@@ -14,10 +14,9 @@ use crate::keeper::Keeper;
 fn run(rt: &HostRuntime) -> anyhow::Result<()> {
     let heap = rt.alloc();
     let mut keeper = Keeper::new(heap);
-    let mut number = 0usize;
-    for text in rt.lines(heap) {
+    for (before, text) in rt.lines(heap).enumerate() {
         let text = text?;
-        number = number.saturating_add(1);
+        let number = before.saturating_add(1);
         let words: Vec<&str> = text.as_str().split_whitespace().collect(heap)?;
         match words.as_slice() {
             ["draws", from, what, radices @ ..] => drawing::follow(
