@@ -10,7 +10,7 @@ use Rattle.calls.specs.Calls.{Call, Verdict, refuses, opens, settles, withdraws,
 use Rattle.calls.specs.Steps.{gone}
 use Rattle.calls.specs.Lists.{Lot, next, instead, Listed}
 use Rattle.calls.specs.Past.{Deed, arrived, departed, without_key, live_after, counted_forms_of, counted_live, event, events, number_live, number_unpaired, told_pile, Ledger, note_settled, noted, note, note_all, ledger}
-use Rattle.calls.specs.Laws.{EntryFits}
+use Rattle.calls.specs.Kept.{EntryFits}
 use Rattle.calls.proofs.Members.{Member, keys, tags, forms, counted_among, all_but, Seated, newcomer, seated_more, seated_fewer, keys_fewer, tags_fewer, tags_same, tags_have, counted_forms, length_forms, all_counted, tags_lack}
 use Rattle.calls.proofs.Piles.{shown, radix_called}
 use Rattle.calls.proofs.Searches.{none_some}

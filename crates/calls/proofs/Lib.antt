@@ -1,6 +1,9 @@
+pub mod Further
 pub mod Insertions
+pub mod Joins
 pub mod Ledgers
 pub mod Listings
+pub mod Lots
 pub mod Members
 pub mod Piles
 pub mod Promised

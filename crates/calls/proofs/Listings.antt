@@ -9,7 +9,7 @@ use Rattle.calls.specs.Past.{Ledger, events, radices}
 use Rattle.calls.specs.Promise.{sample, past_ledger, list_radices}
 use Rattle.calls.specs.Laws.{RightlyMarked, ListUnder, SameAnswers}
 use Rattle.calls.proofs.Ledgers.{new_kept, past_grows}
-use Rattle.calls.proofs.Piles.{shown}
+use Rattle.calls.proofs.Piles.{shown, new_full}
 use Rattle.calls.proofs.Shares.{N_is, L_is, reached}
 use Rattle.calls.proofs.Under.{UnderFrom, under_from}
 
@@ -29,9 +29,9 @@ module _ (m : Meaning) (b : Book) (new : New m) (fresh : new_book b ≡ true) (c
   abbrev first : Ledger
   first = record { book = b; past = [] }
 
-  from_new : (tape : List ℕ) → Tape (list_radices m b calls) tape → UnderFrom m first b m calls tape
+  pub from_new : (tape : List ℕ) → Tape (list_radices m b calls) tape → UnderFrom m first b m calls tape
   from_new tape draws =
-      under_from m first b m calls tape (new_kept m b fresh) refl (new_shown m new) marked
+      under_from m first b m calls tape (new_kept m b fresh) refl (new_shown m new) (new_full m new) marked
       (subst (λ past. Tape (radices m past) tape) (past_grows m first calls) draws)
 
   pile_is : (tape : List ℕ) → Tape (list_radices m b calls) tape → pile_under b m calls tape ≡ under m (events (past_ledger m b calls).past) tape
@@ -43,6 +43,7 @@ module _ (m : Meaning) (b : Book) (new : New m) (fresh : new_book b ≡ true) (c
       let pile = pile_is tape draws in
       let law = reached m b new fresh calls tape draws in
       record {
+        same_radices = on.radices ∙ ap (radices m) (sym (past_grows m first calls));
         same_draws = on.draws;
         same_sample = ap₂ (λ c p. sample c p.places) on.book pile;
         same_roster = on.book;

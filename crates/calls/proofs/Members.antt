@@ -9,8 +9,8 @@ use Rattle.std.proofs.lemmas.Bool.{eq-eqb, ne_eqb, eqb-true, or_left, or_right, 
 use Rattle.std.proofs.lemmas.Bool.Decides.{not_from_Decides}
 use Rattle.evenness.specs.Events.{has, without}
 use Rattle.calls.specs.Book.{KeyView, OpenEntry, holds_form}
-use Rattle.calls.specs.Past.{without_key, counted_forms_of}
-use Rattle.calls.specs.Laws.{Openable}
+use Rattle.calls.specs.Past.{without_key, forms_of, counted_forms_of}
+use Rattle.calls.specs.Kept.{Openable}
 use Rattle.calls.proofs.Searches.{none_some, same_some, held_below}
 
 pub record Member : Type 0 where
@@ -228,6 +228,10 @@ module _ (slots : List (Option KeyView)) (key : KeyView) (tag : ℕ) (held : get
       (counted : ℕ → Bool) (ms : List Member) → Seated slots ms → counted key.class ≡ true →
       has (tags (counted_among counted ms)) tag ≡ true
   tags_have counted ms s c = off_has counted (leaver_off ms s) c
+
+pub forms_of_keys : (ms : List Member) → forms_of (keys ms) ≡ forms ms
+forms_of_keys [] = refl
+forms_of_keys (x ∷ ms) = ap (λ fs. x.key.form ∷ fs) (forms_of_keys ms)
 
 -- the forms and the tags of the counted members
 pub counted_forms : (counted : ℕ → Bool) (ms : List Member) → counted_forms_of counted (keys ms) ≡ forms (counted_among counted ms)

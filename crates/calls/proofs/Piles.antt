@@ -1,11 +1,12 @@
 -- What one entry and one leave answer, and what they do to the pile's counts, whatever stands on its places.
-use Rattle.std.proofs.Common.{◌≡◌, ℕ, zero, suc, pred, ◌+◌, ◌-◌, ◌<◌, Bool, true, false, eqb, ltb, ◌⊎◌, List, length, None, Option, sym, refl, ap, ◌∙◌, subst, inl, inr, add-one, arith}
+use Rattle.std.proofs.Common.{◌≡◌, ℕ, zero, suc, pred, ◌+◌, ◌-◌, ◌<◌, min, Bool, true, false, eqb, ltb, ◌⊎◌, List, [], ◌∷◌, length, get_or, set, Some, None, Option, sym, refl, ap, ◌∙◌, subst, inl, inr, add-one, arith, length-append, length-set}
 use lib.Dec.{eqb-suc-zero}
-use Rattle.std.proofs.lemmas.Bool.{lt-ltb, ltb-true, eqb-true, false≢true}
+use Rattle.std.proofs.lemmas.Bool.{lt-ltb, ltb-true, ltb-false, eqb-true, eqb-false, false≢true}
 use Rattle.pile.specs.declared.receipts.EntryReceipt.{EntryReceipt}
 use Rattle.pile.specs.Answers.{Told, refused, told, Place}
-use Rattle.pile.specs.Meaning.{Meaning}
-use Rattle.pile.specs.Rules.{radix_when, radix_rule, drawn_place, hole_place, tag_place, receipt, entry_counted, entry_drawn, entry_asked, entry_rule, leave_when, leave_rule}
+use Rattle.pile.specs.Meaning.{Meaning, New}
+use Rattle.pile.specs.Rules.{radix_when, radix_rule, drawn_place, drawn_places, hole_place, tag_place, receipt, entry_counted, entry_drawn, entry_asked, entry_rule, leave_when, leave_rule}
+use Rattle.pile.proofs.Soundness.{length_put}
 use Rattle.evenness.specs.Events.{has, without, Tally, tally_came, tally_went, radix_of}
 use Rattle.evenness.proofs.Picks.{off_length}
 use Rattle.evenness.proofs.Tags.{has_off}
@@ -156,3 +157,68 @@ module _ (m : Meaning) (t : Tally) (ps : List Place) (tag class : ℕ) where
           subst (λ (l : Bool). Went true (leave_when true l (ltb 0 (length t.tags)) (shown m t ps) tag).after) (sym (may k).1)
           (subst (λ (n : Bool). Went true (leave_when true true n (shown m t ps) tag).after) (sym (lt-ltb 0 (length t.tags) (omega arith)))
           (same_counts m _ counts (add-one t.unpaired)))
+
+-- There are L places, and every entry and every leave keeps it so.
+abbrev pub Full : Meaning → Type 0
+Full m = length m.places ≡ min m.bound (m.live + m.unpaired)
+
+pub new_full : (m : Meaning) → New m → Full m
+new_full m new = let none = ap length new.no_places in omega (arith, none, new.none_live, new.none_unpaired)
+
+drawn_length :
+    (within among room : Bool) (ps : List Place) (bound live tag draw : ℕ) → ltb draw bound ≡ within → ltb draw live ≡ among →
+    ltb live bound ≡ room → draw < live + 1 → length ps ≡ min bound live → length (drawn_places within among room ps tag draw) ≡ min bound (live + 1)
+drawn_length false among room ps bound live tag draw w a r l e = let h = ltb-false draw bound w in omega arith
+drawn_length true true true ps bound live tag draw w a r l e =
+    let h = ltb-true live bound r in
+    omega (arith, length-append (set ps draw (Some tag)) (get_or ps draw None ∷ []), length-set ps draw (Some tag))
+drawn_length true true false ps bound live tag draw w a r l e =
+    let h = ltb-false live bound r in omega (arith, length-set ps draw (Some tag))
+drawn_length true false room ps bound live tag draw w a r l e =
+    let h = ltb-true draw bound w in
+    let k = ltb-false draw live a in
+    omega (arith, length-append ps (Some tag ∷ []))
+
+pub entry_full : (m : Meaning) (tag class draw : ℕ) → Full m → Full (entry_rule m tag class draw).after
+entry_full m tag class draw full = by_called (radix_rule m class) refl
+  where
+    counted_by :
+        (radix : ℕ) (paired : Bool) → eqb m.unpaired 0 ≡ paired → radix ≡ radix_of true m.unpaired m.live → draw < radix →
+        Full (entry_counted paired m radix tag draw).after
+    counted_by radix true q is below =
+        let none = eqb-true m.unpaired 0 q in
+        let radix_is : radix ≡ m.live + 1 = is ∙ ap (λ d. radix_of true d m.live) none in
+        let e : length m.places ≡ min m.bound m.live = omega (arith, full) in
+        omega (
+          arith,
+          drawn_length (ltb draw m.bound) (ltb draw m.live) (ltb m.live m.bound) m.places m.bound m.live tag draw refl
+              refl refl (omega arith) e,
+        )
+    counted_by radix false q is below =
+        let some = eqb-false m.unpaired 0 q in
+        let e : m.live + 1 + (m.unpaired - 1) ≡ m.live + m.unpaired = omega arith in
+        length_put m.places (hole_place m.places draw) (Some tag) ∙ full ∙ ap (min m.bound) (sym e)
+
+    by :
+        (radix : ℕ) (below counted : Bool) → ltb draw radix ≡ below → m.counted class ≡ counted →
+        radix ≡ radix_of (m.counted class) m.unpaired m.live → Full (entry_drawn below counted m radix tag draw).after
+    by radix false counted l c is = full
+    by radix true false l c is = full
+    by radix true true l c is =
+        counted_by radix (eqb m.unpaired 0) refl (is ∙ ap (λ k. radix_of k m.unpaired m.live) c) (ltb-true draw radix l)
+
+    by_called : (called : Told ℕ) → radix_rule m class ≡ called → Full (entry_asked called m tag class draw).after
+    by_called (refused number) e = full
+    by_called (told radix) e = by radix (ltb draw radix) (m.counted class) refl refl (radix_called m class radix e).is
+
+pub leave_full : (m : Meaning) (tag class : ℕ) → Full m → Full (leave_rule m tag class).after
+leave_full m tag class full = by (m.counted class) m.leaves (ltb 0 m.live) refl
+  where
+    by : (counted leaves some_live : Bool) → ltb 0 m.live ≡ some_live → Full (leave_when counted leaves some_live m tag).after
+    by false leaves some_live e = full
+    by true false some_live e = full
+    by true true false e = full
+    by true true true e =
+        let some = ltb-true 0 m.live e in
+        let same : m.live - 1 + (m.unpaired + 1) ≡ m.live + m.unpaired = omega arith in
+        length_put m.places (tag_place m.places tag) None ∙ full ∙ ap (min m.bound) (sym same)

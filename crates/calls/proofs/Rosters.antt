@@ -1,16 +1,24 @@
 -- Every call keeps a roster well kept, whatever the pile.
-use Rattle.std.proofs.Common.{◌≡◌, ℕ, Bool, true, false, ltb, List, get_or, set, Some, None, Option, sym, ap, ◌∙◌, subst, ⊎_elim}
+use Rattle.std.proofs.Common.{◌≡◌, ℕ, zero, suc, Bool, true, false, ◌&&◌, ltb, List, get_or, set, replicate, Some, None, Option, sym, refl, ap, ◌∙◌, subst, ⊎_elim}
 use Rattle.std.proofs.lemmas.List.{get_or-set_same, get_or-set_other}
 use Rattle.std.proofs.lemmas.Bool.{cases_eq}
 use Rattle.pile.specs.Meaning.{Meaning}
-use Rattle.calls.specs.Book.{KeyView, OpenEntry, Book, new_book, holds_form}
+use Rattle.calls.specs.Book.{KeyView, OpenEntry, Book, all_free, new_book, opened_book, holds_form}
 use Rattle.calls.specs.Calls.{Call, Verdict, refuses, opens, settles, withdraws, lets_go, tells, verdict}
 use Rattle.calls.specs.Steps.{Supply, gives, fails, settled, gone, settle_drawn, carried_out, step}
-use Rattle.calls.specs.Laws.{Openable, EntryFits, WellKept}
+use Rattle.calls.specs.Kept.{Openable, EntryFits, WellKept}
 use Rattle.calls.proofs.Ledgers.{new_parts}
 use Rattle.calls.proofs.Members.{form_differs}
 use Rattle.calls.proofs.Searches.{none_some, same_some, held_below}
 use Rattle.calls.proofs.Verdicts.{LetsGo, Right, verdict_right}
+
+-- a roster as its opening leaves it is new
+opened_free : (capacity : ℕ) → all_free (replicate capacity None) ≡ true
+opened_free zero = refl
+opened_free (suc capacity) = opened_free capacity
+
+pub opened_is_new : (capacity : ℕ) → new_book (opened_book capacity) ≡ true
+opened_is_new capacity = ap (λ free. free && true) (opened_free capacity)
 
 pub new_well_kept : (b : Book) → new_book b ≡ true → WellKept b
 new_well_kept b new =

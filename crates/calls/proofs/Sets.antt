@@ -1,5 +1,5 @@
 -- Sets of keys, by form, against sets of tags: members have one tag and one form each, so the two are held alike.
-use Rattle.std.proofs.Common.{◌≡◌, ℕ, suc, true, ◌&&◌, ◌||◌, eqb, ◌⊎◌, List, [], ◌∷◌, length, get_or, Some, None, Option, sym, refl, ap, ◌∙◌, subst, ap₂, inl, inr, ⊎_elim}
+use Rattle.std.proofs.Common.{◌≡◌, ℕ, suc, true, false, ◌&&◌, ◌||◌, eqb, ◌⊎◌, List, [], ◌∷◌, length, get_or, is_some, Some, None, Option, sym, refl, ap, ◌∙◌, subst, ap₂, inl, inr, ⊎_elim}
 use Rattle.std.specs.List.{AllByRecursion}
 use Rattle.std.specs.Str.{bytes_eq}
 use Rattle.std.proofs.lemmas.Slice.Eq.{bytes_eq-Decides}
@@ -8,9 +8,10 @@ use Rattle.std.proofs.lemmas.Bool.Decides.{same_from_decides, Decides-like, Deci
 use Rattle.pile.specs.Answers.{Place}
 use Rattle.evenness.specs.Events.{has}
 use Rattle.evenness.specs.Tapes.{sample as tags_on, has_all, Distinct}
-use Rattle.calls.specs.Book.{KeyView, Book}
+use Rattle.calls.specs.Book.{KeyView, Book, holds_form, tag_of}
 use Rattle.calls.specs.Promise.{with_form, sample, has_form, has_forms, same_set, NoRepeats}
-use Rattle.calls.proofs.Members.{Member, tags, forms, Differ, Apart}
+use Rattle.calls.proofs.Members.{Member, tags, forms, Differ, Apart, Seated}
+use Rattle.calls.proofs.Searches.{same_some, Found, tag_of_finds}
 
 -- some member has this tag and this form
 abbrev pub Someone : List Member → (tag : ℕ) (form : List ℕ) → Type 0
@@ -149,6 +150,30 @@ module _ (slots : List (Option KeyView)) where
       ⊎_elim
       (λ e. let at = eqb-true x.tag t e in (x.key, ap (λ u. get_or slots u None) (sym at) ∙ sits.0, inl (at, refl)))
       (λ k. let on = someone_on ms t sits.1 k in (on.0, on.1, inr on.2)) (or_cases (eqb x.tag t) (has (tags ms) t) h)
+
+  -- the keys that a search finds are the members
+  no_one :
+      (ms : List Member) (form : List ℕ) → AllByRecursion (λ x. get_or slots x.tag None ≡ Some x.key) ms →
+      ((slot : ℕ) → holds_form form (get_or slots slot None) ≡ false) → has_form (forms ms) form ≡ false
+  no_one [] form sits off = refl
+  no_one (x ∷ ms) form sits off = ap₂ ◌||◌ (ap (holds_form form) (sym sits.0) ∙ off x.tag) (no_one ms form sits.1 off)
+
+  pub found_member : (ms : List Member) → Seated slots ms → (key : KeyView) → is_some (tag_of slots key) ≡ has_form (forms ms) key.form
+  found_member ms s key = by (tag_of slots key) (tag_of_finds slots key)
+    where
+      on : (tag : ℕ) (o : Option KeyView) → get_or slots tag None ≡ o → holds_form key.form o ≡ true → has_form (forms ms) key.form ≡ true
+      on tag None at e = absurd (false≢true e)
+      on tag (Some held) at e =
+          let who = someone_on ms tag s.sits (s.no_other tag held at) in
+          let same = ap (λ (k : KeyView). k.form) (same_some who.0 held (sym who.1 ∙ at)) ∙ (bytes_eq-Decides held.form key.form).0 e in
+          someone_has ms tag key.form (subst (Someone ms tag) same who.2)
+
+      by :
+          (found : Option ℕ) →
+          Found (holds_form key.form) slots found ((slot : ℕ) → holds_form key.form (get_or slots slot None) ≡ false) →
+          is_some found ≡ has_form (forms ms) key.form
+      by (Some tag) h = sym (on tag (get_or slots tag None) refl h.1)
+      by None off = sym (no_one ms key.form s.sits off)
 
   -- the keys that stand are those of the tags that stand
   pub sample_matched :

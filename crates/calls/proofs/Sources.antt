@@ -1,17 +1,18 @@
 -- The enters of a run take from a steady source exactly the draws that their receipts hold.
-use Rattle.std.proofs.Common.{◌≡◌, ℕ, zero, suc, Bool, true, false, ltb, List, [], ◌∷◌, ◌++◌, length, take, Some, None, Option, sym, refl, ap, ◌∙◌, subst, arith, MatchOption}
+use Rattle.std.proofs.Common.{◌≡◌, ℕ, zero, suc, Bool, true, false, ltb, List, [], ◌∷◌, ◌++◌, length, take, drop, Some, None, Option, sym, refl, ap, ◌∙◌, subst, arith, MatchOption}
 use Rattle.pile.specs.declared.receipts.EntryReceipt.{EntryReceipt}
 use Rattle.pile.specs.declared.receipts.LeaveReceipt.{LeaveReceipt}
 use Rattle.pile.specs.Answers.{Told, refused, told}
 use Rattle.pile.specs.Meaning.{Meaning}
 use Rattle.pile.specs.Rules.{radix_rule, entry_rule, leave_rule}
 use Rattle.sources.specs.Answers.{Refusal, Answer as SourceAnswer, drew, refused as source_refused}
-use Rattle.sources.specs.Courses.{Given, before, gives_by}
+use Rattle.sources.specs.Courses.{Given, before, gives_by, all_before}
+use Rattle.sources.specs.Records.{radices_of}
 use Rattle.calls.specs.Book.{OpenEntry, Book}
 use Rattle.calls.specs.Calls.{Call, admit, settle, withdraw, enter, leave, ask, Verdict, refuses, opens, settles, withdraws, lets_go, tells, verdict, admit_verdict}
 use Rattle.calls.specs.Steps.{Answer, receipt_in, entry_answer, leave_answer, settle_drawn, settle_supplied, carried_out}
-use Rattle.calls.specs.Runs.{Request, World, supplied_by, supplied, enter_supply, supply, rest_of_draws, followed, course_moved, course_after, step_of, after, run_answers, run_world}
-use Rattle.calls.specs.Promise.{enter_receipt, enter_receipts, receipt_radices, draws_then, TookFromSource}
+use Rattle.calls.specs.Runs.{Request, World, drawn_below, supplied_by, supplied, enter_supply, supply, followed, course_moved, course_after, step_of, after, run_answers, run_world}
+use Rattle.calls.specs.Promise.{enter_receipt, enter_receipts, TookFromSource}
 use Rattle.calls.specs.Laws.{Steady}
 use Rattle.calls.proofs.Piles.{same_told, Says, entry_says}
 use Rattle.calls.proofs.Under.{told_no_receipt}
@@ -30,7 +31,7 @@ steady_by answer next x (radix ∷ radices) more = by (answer x radix) (steady_b
     by (drew draw) ih = ap (λ draws. draw ∷ draws) ih
     by (source_refused refusal) ih = refl
 
-rest_take : (n : ℕ) (xs : List ℕ) → rest_of_draws (take (suc n) xs) ≡ take n (rest_of_draws xs)
+rest_take : (n : ℕ) (xs : List ℕ) → drop 1 (take (suc n) xs) ≡ take n (drop 1 xs)
 rest_take zero [] = refl
 rest_take (suc n) [] = refl
 rest_take zero (x ∷ xs) = refl
@@ -39,15 +40,15 @@ rest_take (suc n) (x ∷ xs) = refl
 -- and so is what follows in it
 steady_followed : (course : List ℕ → Given) (radix : ℕ) → Steady course → Steady (followed course radix)
 steady_followed course radix s first more =
-    sym (rest_take (length first) (course (radix ∷ (first ++ more))).draws) ∙ ap rest_of_draws (s (radix ∷ first) more)
+    sym (rest_take (length first) (course (radix ∷ (first ++ more))).draws) ∙ ap (drop 1) (s (radix ∷ first) more)
 
 -- a draw that was taken is the first that is given, and the course goes on behind it
 abbrev TookOne : (List ℕ → Given) → Option EntryReceipt → Type 0
 TookOne course o =
     MatchOption o (Unit {0})
-    (λ receipt. (more : List ℕ) → course (receipt.radix ∷ more) ≡ draws_then (receipt.draw ∷ []) (followed course receipt.radix more))
+    (λ receipt. (more : List ℕ) → course (receipt.radix ∷ more) ≡ all_before (receipt.draw ∷ []) (followed course receipt.radix more))
 
-first_draw : (draws : List ℕ) (draw : ℕ) (others : List ℕ) → take 1 draws ≡ draw ∷ others → draws ≡ draw ∷ rest_of_draws draws
+first_draw : (draws : List ℕ) (draw : ℕ) (others : List ℕ) → take 1 draws ≡ draw ∷ others → draws ≡ draw ∷ drop 1 draws
 first_draw [] draw others e = let z : ◌≡◌ {A = ℕ} 0 1 = cc in let no' : ⊥ = omega arith in absurd no'
 first_draw (x ∷ draws) draw others e = let same : x ≡ draw = cc in ap (λ y. y ∷ draws) same
 
@@ -66,7 +67,7 @@ said_took course radix draw others (told receipt) steady e says =
 settle_took :
     (b : Book) (m : Meaning) (entry : OpenEntry) (course : List ℕ → Given) → Steady course →
     radix_rule m entry.key.class ≡ told entry.radix →
-    TookOne course (receipt_in (settle_supplied (supplied (course (entry.radix ∷ []))) b m entry).answer)
+    TookOne course (receipt_in (settle_supplied (supplied entry.radix (course (entry.radix ∷ []))) b m entry).answer)
 settle_took b m entry course steady called = by (course (entry.radix ∷ [])).draws (course (entry.radix ∷ [])).refusal refl
   where
     drawn :
@@ -78,10 +79,16 @@ settle_took b m entry course steady called = by (course (entry.radix ∷ [])).dr
         (subst (λ (c : Told ℕ). Says c draw (entry_rule m entry.tag entry.key.class draw).answer) called
         (entry_says m entry.tag entry.key.class draw (radix_rule m entry.key.class)))
 
+    given :
+        (draw : ℕ) (others : List ℕ) (below : Bool) → (course (entry.radix ∷ [])).draws ≡ draw ∷ others →
+        TookOne course (receipt_in (settle_supplied (drawn_below below draw) b m entry).answer)
+    given draw others false e = tt
+    given draw others true e = drawn draw others (ltb draw entry.radix) e
+
     by :
         (draws : List ℕ) (fault : Option Refusal) → (course (entry.radix ∷ [])).draws ≡ draws →
-        TookOne course (receipt_in (settle_supplied (supplied_by draws fault) b m entry).answer)
-    by (draw ∷ others) fault e = drawn draw others (ltb draw entry.radix) e
+        TookOne course (receipt_in (settle_supplied (supplied_by entry.radix draws fault) b m entry).answer)
+    by (draw ∷ others) fault e = given draw others (ltb draw entry.radix) e
     by [] (Some fault) e = tt
     by [] None e = tt
 
@@ -147,7 +154,7 @@ took_more (enter key) answer course final receipts one others = by (receipt_in a
         TookFromSource course final (enter_receipt (enter key) o receipts)
     by None one others = others
     by (Some receipt) one others =
-        λ more. one (receipt_radices receipts ++ more) ∙ ap (draws_then (receipt.draw ∷ [])) (others more)
+        λ more. one (radices_of receipts ++ more) ∙ ap (all_before (receipt.draw ∷ [])) (others more)
 took_more (admit key) answer course final receipts one others = others
 took_more (settle tag class radix) answer course final receipts one others = others
 took_more (withdraw tag class radix) answer course final receipts one others = others

@@ -6,7 +6,7 @@ use Rattle.pile.specs.Meaning.{Meaning}
 use Rattle.pile.specs.Rules.{radix_when, radix_rule}
 use Rattle.calls.specs.Book.{KeyView, OpenEntry, Book, live_count, holds_form, tag_of, free_tag}
 use Rattle.calls.specs.Calls.{Call, admit, settle, withdraw, enter, leave, ask, Verdict, refuses, opens, settles, withdraws, lets_go, tells, verdict, admit_radix, admit_room, admit_live, admit_open, admit_lawful, admit_verdict, is_slip, calls_for, settle_when, settle_open, withdraw_when, withdraw_open, enter_verdict, leave_counted, leave_slot, leave_live, leave_open, leave_lawful}
-use Rattle.calls.specs.Laws.{Openable, EntryFits}
+use Rattle.calls.specs.Kept.{Openable, EntryFits}
 use Rattle.calls.proofs.Searches.{Found, tag_of_finds, free_tag_finds}
 
 -- the same pile with other places
@@ -76,6 +76,23 @@ Right b m withdraws = Unit {0}
 Right b m (lets_go key tag) = LetsGo b m key tag
 Right b m (tells question) = Unit {0}
 
+-- an entry that is settled has the radix that the pile calls for, on every book
+abbrev pub RightRadix : Meaning → Verdict → Type 0
+RightRadix m (refuses number) = Unit {0}
+RightRadix m (opens entry) = Unit {0}
+RightRadix m (settles entry) = radix_rule m entry.key.class ≡ told entry.radix
+RightRadix m withdraws = Unit {0}
+RightRadix m (lets_go key tag) = Unit {0}
+RightRadix m (tells question) = Unit {0}
+
+right_called : (b : Book) (m : Meaning) (v : Verdict) → Right b m v → RightRadix m v
+right_called b m (refuses number) r = tt
+right_called b m (opens entry) r = tt
+right_called b m (settles entry) r = r.called
+right_called b m withdraws r = tt
+right_called b m (lets_go key tag) r = tt
+right_called b m (tells question) r = tt
+
 pub admit_right : (b : Book) (m : Meaning) (key : KeyView) → Right b m (admit_verdict b m key)
 admit_right b m key = by key.lawful
   where
@@ -113,6 +130,72 @@ admit_right b m key = by key.lawful
     by false = tt
     by true = by_open b.entry refl
 
+-- only settles and enters can take a draw
+abbrev pub TakesNone : Verdict → Type 0
+TakesNone (refuses number) = Unit {0}
+TakesNone (opens entry) = Unit {0}
+TakesNone (settles entry) = ⊥
+TakesNone withdraws = Unit {0}
+TakesNone (lets_go key tag) = Unit {0}
+TakesNone (tells question) = Unit {0}
+
+pub admit_takes_none : (b : Book) (m : Meaning) (key : KeyView) → TakesNone (admit_verdict b m key)
+admit_takes_none b m key = by key.lawful
+  where
+    by_radix : (called : Told ℕ) (tag : ℕ) → TakesNone (admit_radix called key tag)
+    by_radix (refused number) tag = tt
+    by_radix (told radix) tag = tt
+
+    by_room : (room : Bool) (free : Option ℕ) → TakesNone (admit_room room free (radix_rule m key.class) key)
+    by_room false free = tt
+    by_room true None = tt
+    by_room true (Some tag) = by_radix (radix_rule m key.class) tag
+
+    by_live : (live : Option ℕ) → TakesNone (admit_live live b (radix_rule m key.class) key)
+    by_live (Some tag) = tt
+    by_live None = by_room (ltb (live_count b.slots) (length b.slots)) (free_tag b.slots key)
+
+    by_open : (o : Option OpenEntry) → TakesNone (admit_open o b (radix_rule m key.class) key)
+    by_open (Some entry) = tt
+    by_open None = by_live (tag_of b.slots key)
+
+    by : (lawful : Bool) → TakesNone (admit_lawful lawful b (radix_rule m key.class) key)
+    by false = tt
+    by true = by_open b.entry
+
+pub withdraw_takes_none : (tag class radix : ℕ) (o : Option OpenEntry) → TakesNone (withdraw_open o tag class radix)
+withdraw_takes_none tag class radix None = tt
+withdraw_takes_none tag class radix (Some entry) = by (is_slip entry tag class radix)
+  where
+    by : (slip : Bool) → TakesNone (withdraw_when slip)
+    by false = tt
+    by true = tt
+
+pub leave_takes_none : (b : Book) (m : Meaning) (key : KeyView) → TakesNone (leave_lawful key.lawful b m key)
+leave_takes_none b m key = by key.lawful
+  where
+    by_counted : (held : KeyView) (tag : ℕ) (counted leaves some_live : Bool) → TakesNone (leave_counted counted leaves some_live held tag)
+    by_counted held tag false leaves some_live = tt
+    by_counted held tag true false some_live = tt
+    by_counted held tag true true false = tt
+    by_counted held tag true true true = tt
+
+    by_slot : (slot : Option KeyView) (tag : ℕ) → TakesNone (leave_slot slot tag m)
+    by_slot None tag = tt
+    by_slot (Some held) tag = by_counted held tag (m.counted held.class) m.leaves (ltb 0 m.live)
+
+    by_live : (live : Option ℕ) → TakesNone (leave_live live b m)
+    by_live None = tt
+    by_live (Some tag) = by_slot (get_or b.slots tag None) tag
+
+    by_open : (o : Option OpenEntry) → TakesNone (leave_open o b m key)
+    by_open (Some entry) = tt
+    by_open None = by_live (tag_of b.slots key)
+
+    by : (lawful : Bool) → TakesNone (leave_lawful lawful b m key)
+    by false = tt
+    by true = by_open b.entry
+
 pub enter_right : (b : Book) (m : Meaning) (v : Verdict) → Right b m v → Right b m (enter_verdict v)
 enter_right b m (refuses number) h = tt
 enter_right b m (opens entry) h = record { openable = h.openable; called = h.called }
@@ -125,27 +208,43 @@ calls_told : (called : Told ℕ) (radix : ℕ) → calls_for called radix ≡ tr
 calls_told (refused number) radix e = absurd (false≢true e)
 calls_told (told n) radix e = ap told (eqb-true n radix e)
 
+-- a slip of the entry has its tag, class and radix
+pub slip_parts :
+    (entry : OpenEntry) (tag class radix : ℕ) → is_slip entry tag class radix ≡ true →
+    (entry.tag ≡ tag) × (entry.key.class ≡ class) × (entry.radix ≡ radix)
+slip_parts entry tag class radix e =
+    let parts = and_parts (eqb entry.tag tag && eqb entry.key.class class) (eqb entry.radix radix) e in
+    let more = and_parts (eqb entry.tag tag) (eqb entry.key.class class) parts.0 in (
+      eqb-true entry.tag tag more.0,
+      eqb-true entry.key.class class more.1,
+      eqb-true entry.radix radix parts.1,
+    )
+
+pub settle_radix : (m : Meaning) (tag class radix : ℕ) (o : Option OpenEntry) → RightRadix m (settle_open o m tag class radix)
+settle_radix m tag class radix None = tt
+settle_radix m tag class radix (Some entry) =
+    by (is_slip entry tag class radix) (calls_for (radix_rule m class) radix) refl refl
+  where
+    by :
+        (slip called : Bool) → is_slip entry tag class radix ≡ slip → calls_for (radix_rule m class) radix ≡ called →
+        RightRadix m (settle_when slip called entry)
+    by false called s c = tt
+    by true false s c = tt
+    by true true s c =
+        let parts = slip_parts entry tag class radix s in
+        ap (radix_rule m) parts.1 ∙ calls_told (radix_rule m class) radix c ∙ ap told (sym parts.2)
+
 settle_right :
     (b : Book) (m : Meaning) (tag class radix : ℕ) (o : Option OpenEntry) → EntryFits b.slots o →
     Right b m (settle_open o m tag class radix)
 settle_right b m tag class radix None fits = tt
 settle_right b m tag class radix (Some entry) fits =
-    by (is_slip entry tag class radix) (calls_for (radix_rule m class) radix) refl refl
+    by (is_slip entry tag class radix) (calls_for (radix_rule m class) radix) (settle_radix m tag class radix (Some entry))
   where
-    by :
-        (slip called : Bool) → is_slip entry tag class radix ≡ slip → calls_for (radix_rule m class) radix ≡ called →
-        Right b m (settle_when slip called entry)
-    by false called s c = tt
-    by true false s c = tt
-    by true true s c =
-        let parts = and_parts (eqb entry.tag tag && eqb entry.key.class class) (eqb entry.radix radix) s in
-        let more = and_parts (eqb entry.tag tag) (eqb entry.key.class class) parts.0 in
-        record {
-          openable = fits;
-          called =
-              ap (radix_rule m) (eqb-true entry.key.class class more.1) ∙ calls_told (radix_rule m class) radix c
-              ∙ ap told (sym (eqb-true entry.radix radix parts.1));
-        }
+    by : (slip called : Bool) → RightRadix m (settle_when slip called entry) → Right b m (settle_when slip called entry)
+    by false called r = tt
+    by true false r = tt
+    by true true r = record { openable = fits; called = r }
 
 withdraw_right : (b : Book) (m : Meaning) (tag class radix : ℕ) (o : Option OpenEntry) → Right b m (withdraw_open o tag class radix)
 withdraw_right b m tag class radix None = tt
@@ -194,3 +293,12 @@ verdict_right b m (withdraw tag class radix) fits = withdraw_right b m tag class
 verdict_right b m (enter key) fits = enter_right b m (admit_verdict b m key) (admit_right b m key)
 verdict_right b m (leave key) fits = leave_right b m key
 verdict_right b m (ask question) fits = tt
+
+pub verdict_radix : (b : Book) (m : Meaning) (call : Call) → RightRadix m (verdict b m call)
+verdict_radix b m (admit key) = right_called b m (admit_verdict b m key) (admit_right b m key)
+verdict_radix b m (settle tag class radix) = settle_radix m tag class radix b.entry
+verdict_radix b m (withdraw tag class radix) = right_called b m (withdraw_open b.entry tag class radix) (withdraw_right b m tag class radix b.entry)
+verdict_radix b m (enter key) =
+    right_called b m (enter_verdict (admit_verdict b m key)) (enter_right b m (admit_verdict b m key) (admit_right b m key))
+verdict_radix b m (leave key) = right_called b m (leave_lawful key.lawful b m key) (leave_right b m key)
+verdict_radix b m (ask question) = tt

@@ -1,5 +1,5 @@
 -- What a roster means: who is live, under which tag, and the entry that is open. No draw is in it.
-use Rattle.std.specs.Prelude.{ℕ, zero, suc, ◌+◌, ◌-◌, ◌%◌, Bool, true, false, not, ◌&&◌, List, [], ◌∷◌, length, is_some, Some, None, Option, nat_lt, slice_index_or}
+use Rattle.std.specs.Prelude.{ℕ, zero, suc, ◌+◌, ◌-◌, ◌%◌, Bool, true, false, not, ◌&&◌, List, [], ◌∷◌, length, replicate, is_some, Some, None, Option, nat_lt, slice_index_or}
 use Rattle.std.specs.Str.{bytes_eq}
 pub use Rattle.keys.specs.View.{KeyView}
 
@@ -14,13 +14,21 @@ pub record Book : Type 0 where
   pub slots : List (Option KeyView)
   pub entry : Option OpenEntry
 
--- a roster that nothing has happened to
+-- slots without a live key
+abbrev pub is_free : Option KeyView → Bool
+is_free slot = not (is_some slot)
+
 abbrev pub all_free : List (Option KeyView) → Bool
 all_free [] = true
-all_free (slot ∷ slots) = not (is_some slot) && all_free slots
+all_free (slot ∷ slots) = is_free slot && all_free slots
 
+-- a new roster: no live key, and no open entry
 abbrev pub new_book : Book → Bool
 new_book b = all_free b.slots && not (is_some b.entry)
+
+-- a roster as its opening leaves it
+abbrev pub opened_book : (capacity : ℕ) → Book
+opened_book capacity = record { slots = replicate capacity None; entry = None }
 
 -- how many keys are live
 abbrev pub one_if_held : Option KeyView → ℕ
@@ -36,8 +44,8 @@ abbrev pub holds_form : (form : List ℕ) → Option KeyView → Bool
 holds_form form None = false
 holds_form form (Some key) = bytes_eq key.form form
 
--- A search begins at the key's index number, cut to the number of slots, and goes over every slot once, from the last to the first.
--- The slot that it looks at after i others:
+-- A search begins at the key's index number, cut to the number of slots. It goes upwards and looks at every slot once: after the last
+-- slot comes slot 0. The slot that it looks at after i others:
 abbrev pub wrapped : (within : Bool) (at count : ℕ) → ℕ
 wrapped true at count = at
 wrapped false at count = at - count
@@ -64,8 +72,5 @@ abbrev pub tag_of : List (Option KeyView) → KeyView → Option ℕ
 tag_of slots key = seek_all (holds_form key.form) slots key.index
 
 -- the tag that a key gets: the first free slot
-abbrev pub is_free : Option KeyView → Bool
-is_free slot = not (is_some slot)
-
 abbrev pub free_tag : List (Option KeyView) → KeyView → Option ℕ
 free_tag slots key = seek_all is_free slots key.index

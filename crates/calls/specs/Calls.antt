@@ -5,6 +5,8 @@ use Rattle.pile.specs.Meaning.{Meaning}
 use Rattle.pile.specs.Rules.{radix_rule}
 use Rattle.calls.specs.Book.{KeyView, OpenEntry, Book, live_count, tag_of, free_tag}
 
+-- What can be asked. A pile's bound, its counted classes and whether it takes leaves are settings, which no call changes: to ask for
+-- them is no call of the list.
 pub data Question : Type 0 where
   -- what the pile tells
   what_place : (i : ℕ) → Question
@@ -31,7 +33,7 @@ pub data Verdict : Type 0 where
   refuses : (number : ℕ) → Verdict
   -- an entry is opened
   opens : OpenEntry → Verdict
-  -- the entry is settled, with a draw below its radix
+  -- the entry is settled as soon as it has a draw below its radix
   settles : OpenEntry → Verdict
   -- the open entry is ended
   withdraws : Verdict
@@ -92,7 +94,7 @@ abbrev pub withdraw_open : Option OpenEntry → (tag class radix : ℕ) → Verd
 withdraw_open None tag class radix = refuses 11
 withdraw_open (Some entry) tag class radix = withdraw_when (is_slip entry tag class radix)
 
--- Enter is admit, and then a settle of the entry that was opened.
+-- Enter is admit, and then a settle of the entry that was opened. (The last four never come of an admit.)
 abbrev pub enter_verdict : Verdict → Verdict
 enter_verdict (refuses number) = refuses number
 enter_verdict (opens entry) = settles entry

@@ -1,32 +1,24 @@
--- What follows for a list of calls alone, whatever source each enter had, on a roster and a pile that were new.
-use Rattle.std.specs.Prelude.{◌≡◌, ℕ, ◌+◌, ◌*◌, ◌<◌, true, false, List, [], ◌∷◌, ◌++◌, map, length, take, Some, None, Option, nat_lt, slice_index_or}
+-- What follows for a list of calls alone, whatever source each enter had, on a roster and a pile that were new. At the end: runs that
+-- go on from such a list, and steady sources.
+use Rattle.std.specs.Prelude.{◌≡◌, ℕ, false, List, [], ◌∷◌, ◌++◌, map, length, take, nat_lt}
 use Rattle.pile.specs.Meaning.{Meaning}
-use Rattle.evenness.specs.Counting.{choose, choose_less}
+use Rattle.evenness.specs.Tapes.{Tape}
 use Rattle.sources.specs.Courses.{Given}
-use Rattle.calls.specs.Book.{KeyView, OpenEntry, Book, holds_form}
+use Rattle.calls.specs.Book.{Book}
 use Rattle.calls.specs.Calls.{Verdict, refuses, opens, settles, withdraws, lets_go, tells, verdict}
 use Rattle.calls.specs.Steps.{gives, fails}
-use Rattle.calls.specs.Lists.{Lot, next, instead, Listed, answers_under, book_under, pile_under, draws_in}
-use Rattle.calls.specs.Past.{Ledger, told_pile, note, counted_live}
-use Rattle.calls.specs.Promise.{sample, has_form, past_ledger, N, d, L, all_tapes, sample_under, tapes_giving, CountedLiveSet, bare}
+use Rattle.calls.specs.Runs.{Request, World, run_answers, run_world}
+use Rattle.calls.specs.Lists.{Lot, next, instead, Listed, listed, answers_under, book_under, pile_under, draws_in, radices_in}
+use Rattle.calls.specs.Past.{Ledger, told_pile, note}
+use Rattle.calls.specs.Promise.{sample, past_ledger, N, d, L, list_radices, sample_under, EqualShares, ChooseShares, NoOtherSet, bare}
 
 -- Over all tapes: the shares.
 pub record ListShares (m : Meaning) (b : Book) (calls : List Listed) : Type 0 where
-  -- any two sets of counted live keys of equal size are the sample under equally many tapes
-  pub equal_shares :
-      (set other : List (List ℕ)) → CountedLiveSet m b calls set → CountedLiveSet m b calls other → length set ≡ length other →
-      tapes_giving m b calls set ≡ tapes_giving m b calls other
-  -- with a for its size, that number times choose(N+d, L) is the number of all tapes times choose(d, L-a)
-  pub shares :
-      (set : List (List ℕ)) → CountedLiveSet m b calls set →
-      tapes_giving m b calls set * choose (N m b calls + d m b calls) (L m b calls)
-      ≡ all_tapes m b calls * choose_less (d m b calls) (L m b calls) (length set)
-  -- a set with a key that is not live and counted is the sample under no tape
-  pub no_others :
-      (set : List (List ℕ)) (form : List ℕ) → has_form set form ≡ true →
-      has_form (counted_live m (past_ledger m b calls).past) form ≡ false → tapes_giving m b calls set ≡ 0
+  pub equal_shares : EqualShares m b calls
+  pub shares : ChooseShares m b calls
+  pub no_others : NoOtherSet m b calls
 
--- What a settle is listed to have brought instead of the next draw was too large.
+-- What a settle or an enter is listed to have had instead of the next draw was too large a draw, or a source's refusal.
 abbrev pub MarkedBy : Verdict → Lot → Type 0
 MarkedBy (settles entry) (instead (gives draw)) = nat_lt draw entry.radix ≡ false
 MarkedBy (settles entry) (instead (fails number byte)) = Unit {0}
@@ -47,7 +39,8 @@ RightlyMarked m b calls = MarkedFrom m (record { book = b; past = [] }) calls
 
 -- Under one tape: the calls happen by their own steps, and come to what the list alone tells.
 pub record ListUnder (m : Meaning) (b : Book) (calls : List Listed) (tape : List ℕ) : Type 0 where
-  -- the receipts hold the tape
+  -- the receipts hold the list's radices and the tape
+  pub same_radices : radices_in (answers_under b m calls tape) ≡ list_radices m b calls
   pub same_draws : draws_in (answers_under b m calls tape) ≡ tape
   -- the sample is the one that is counted for the tape
   pub same_sample :
@@ -62,23 +55,21 @@ pub record ListUnder (m : Meaning) (b : Book) (calls : List Listed) (tape : List
 abbrev pub SameAnswers : Meaning → Book → List Listed → (tape other : List ℕ) → Type 0
 SameAnswers m b calls tape other = map bare (answers_under b m calls tape) ≡ map bare (answers_under b m calls other)
 
--- What holds of every roster that the calls make. An entry is open only while its tag is a free slot and its key is not live.
-pub record Openable (slots : List (Option KeyView)) (entry : OpenEntry) : Type 0 where
-  pub below : entry.tag < length slots
-  pub free : slice_index_or slots entry.tag None ≡ None
-  pub not_live : (slot : ℕ) → holds_form entry.key.form (slice_index_or slots slot None) ≡ false
+-- A run that goes on where a list of calls under a tape has come to, whatever its source: all together is again a list under a tape.
+module _ (m : Meaning) (b : Book) (calls : List Listed) (tape : List ℕ) (w : World) (requests : List Request) where
+  abbrev pub more_calls : List Listed
+  more_calls = calls ++ listed requests (run_answers w requests)
 
-abbrev pub EntryFits : List (Option KeyView) → Option OpenEntry → Type 0
-EntryFits slots None = Unit {0}
-EntryFits slots (Some entry) = Openable slots entry
+  abbrev pub more_draws : List ℕ
+  more_draws = tape ++ draws_in (run_answers w requests)
 
-pub record WellKept (b : Book) : Type 0 where
-  -- a key has one slot
-  pub one_slot_each :
-      (slot other : ℕ) (key same : KeyView) → slice_index_or b.slots slot None ≡ Some key → slice_index_or b.slots other None ≡ Some same →
-      key.form ≡ same.form → slot ≡ other
-  pub entry_fits : EntryFits b.slots b.entry
+  pub record GoesOn : Type 0 where
+    pub marked : RightlyMarked m b more_calls
+    pub draws_are_a_tape : Tape (list_radices m b more_calls) more_draws
+    pub own_answers : answers_under b m more_calls more_draws ≡ answers_under b m calls tape ++ run_answers w requests
+    pub own_roster : book_under b m more_calls more_draws ≡ (run_world w requests).book
+    pub own_pile : pile_under b m more_calls more_draws ≡ (run_world w requests).pile
 
--- What a course gives for a longer list of radices begins with what it gives for a shorter one.
+-- A steady source: what its course gives for a longer list of radices begins with what it gives for a shorter one.
 abbrev pub Steady : (List ℕ → Given) → Type 0
 Steady course = (first more : List ℕ) → take (length first) (course (first ++ more)).draws ≡ (course first).draws

@@ -1,7 +1,7 @@
 pub mod Book
 pub mod Calls
-pub mod Example
 pub mod Insertions
+pub mod Kept
 pub mod Laws
 pub mod Lists
 pub mod Past

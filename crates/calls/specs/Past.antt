@@ -2,7 +2,7 @@
 use Rattle.std.specs.Prelude.{ℕ, Bool, cond, List, [], ◌∷◌, ◌++◌, length}
 use Rattle.std.specs.Str.{bytes_eq}
 use Rattle.pile.specs.Meaning.{Meaning}
-use Rattle.evenness.specs.Events.{Event, came, went, unpaired_count, radices as radices_of}
+use Rattle.evenness.specs.Events.{Event, came, went, unpaired_count, radices as event_radices}
 use Rattle.calls.specs.Book.{KeyView, OpenEntry, Book}
 use Rattle.calls.specs.Calls.{Verdict, refuses, opens, settles, withdraws, lets_go, tells, verdict}
 use Rattle.calls.specs.Steps.{opened, closed, settled, gone}
@@ -22,6 +22,11 @@ abbrev pub live_after : List KeyView → List Deed → List KeyView
 live_after keys [] = keys
 live_after keys (arrived key tag ∷ past) = live_after (key ∷ keys) past
 live_after keys (departed key tag ∷ past) = live_after (without_key keys key.form) past
+
+-- their byte forms
+abbrev pub forms_of : List KeyView → List (List ℕ)
+forms_of [] = []
+forms_of (key ∷ keys) = key.form ∷ forms_of keys
 
 -- the byte forms of those whose class is counted
 abbrev pub counted_forms_of : (ℕ → Bool) → List KeyView → List (List ℕ)
@@ -51,7 +56,7 @@ number_unpaired m past = unpaired_count m (events past)
 
 -- the radices of the settled entries, in order
 abbrev pub radices : Meaning → List Deed → List ℕ
-radices m past = radices_of m (events past)
+radices m past = event_radices m (events past)
 
 -- the pile as far as the past tells it: its settings, N and d
 abbrev pub told_pile : Meaning → List Deed → Meaning

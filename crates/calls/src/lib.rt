@@ -9,28 +9,30 @@
 //   that (`steady_sources`);
 // - the theorem behind it, over lists of calls alone, whatever source each enter had: the shares of all sets of live keys
 //   (`list_shares`), and what the calls come to under every tape (`under_every_tape`, `same_answers`);
-// - one run and then another is the run of both lists (`runs_join`);
+// - one run and then another is the run of both lists (`runs_join`), a run is a list of calls under its own draws (`runs_are_lists`),
+//   such lists join (`lists_join`), and a run that goes on where a list has come to, with whatever source, makes a longer one
+//   (`runs_go_on`);
 // - a refused call or a question makes no difference, wherever it stands (`no_matter`);
 // - no two slots ever hold one key, and an open entry shares neither tag nor key with a live one (`rosters_are_well_kept`).
 //
 // The functions do nothing: each is there for its contract, which is a theorem. The definitions, in the order in which to read them:
 // specs/Book.antt (what a roster means, and its searches), specs/Calls.antt (the calls, and the questions put to them in order),
 // specs/Steps.antt (what each answers, and what is meant afterwards), specs/Runs.antt (runs of requests), specs/Lists.antt (the list of
-// calls, fixed without sight of the draws, and what it does under a tape), specs/Past.antt (live keys, N, d and radices, worked out
-// from the list alone), specs/Promise.antt (the promise), specs/Laws.antt (the same for lists alone), specs/Insertions.antt and
-// specs/Example.antt.
+// calls, read off requests and answers, and what it does under a tape), specs/Past.antt (live keys, N, d and radices, worked out
+// from the list alone), specs/Promise.antt (the promise), specs/Laws.antt (the same for lists alone, and runs that go on from them),
+// specs/Insertions.antt (refused calls and questions) and specs/Kept.antt (what holds of every roster).
 
 #![tactic(auto)]
 
-ghost use Rattle.std.specs.Prelude.{◌≡◌, ℕ, true, List, [], ◌∷◌, ◌++◌};
-ghost use Rattle.calls.specs.Book.{Book, new_book};
+ghost use Rattle.std.specs.Prelude.{◌≡◌, ℕ, true, List, [], ◌++◌};
+ghost use Rattle.calls.specs.Book.{Book, new_book, opened_book};
 ghost use Rattle.calls.specs.Calls.{Call};
-ghost use Rattle.calls.specs.Example.{key_a, key_b, key_c, new_start, three_enter_one_leaves, its_calls, tapes_for};
 ghost use Rattle.calls.specs.Insertions.{IdleIn, NoMatter};
-ghost use Rattle.calls.specs.Laws.{ListShares, RightlyMarked, ListUnder, SameAnswers, WellKept, Steady};
-ghost use Rattle.calls.specs.Lists.{Listed, listed};
-ghost use Rattle.calls.specs.Past.{ledger};
-ghost use Rattle.calls.specs.Promise.{list_radices, all_tapes, enter_receipts, TookFromSource, NewWorld, Promise};
+ghost use Rattle.calls.specs.Kept.{WellKept};
+ghost use Rattle.calls.specs.Laws.{ListShares, MarkedFrom, RightlyMarked, GoesOn, ListUnder, SameAnswers, Steady};
+ghost use Rattle.calls.specs.Lists.{Listed, listed, answers_under, book_under, pile_under, draws_in};
+ghost use Rattle.calls.specs.Past.{Ledger, note_all, ledger};
+ghost use Rattle.calls.specs.Promise.{list_radices, enter_receipts, TookFromSource, NewWorld, Promise};
 ghost use Rattle.calls.specs.Runs.{Request, World, run_answers, run_world};
 ghost use Rattle.calls.specs.Steps.{Supply, step};
 ghost use Rattle.evenness.specs.Tapes.{Tape};
@@ -61,27 +63,71 @@ pub fn same_answers()
         SameAnswers m b calls tape other }
 {}
 
-// The list of calls that a run comes to is rightly marked.
+// The list of calls that a run comes to, on any roster and pile, is rightly marked, whatever ledger it is noted in; and so is one list
+// after another, where the second is rightly marked for the ledger that the first leaves.
 pub fn runs_are_marked()
-    ensures { (w : World) (requests : List Request) → NewWorld w → RightlyMarked w.pile w.book (listed w requests) }
+    ensures runs { (m : Meaning) (l : Ledger) (w : World) (requests : List Request) → MarkedFrom m l (listed requests (run_answers w requests)) }
+    ensures joined { (m : Meaning) (l : Ledger) (xs ys : List Listed) →
+        MarkedFrom m l xs → MarkedFrom m (note_all m l xs) ys → MarkedFrom m l (xs ++ ys) }
 {}
 
-// One run and then another is the run of both lists.
+// A run, on any roster and pile, is the list of its calls under its own draws.
+pub fn runs_are_lists()
+    ensures answers { (w : World) (requests : List Request) →
+        let answers = run_answers w requests in
+        answers_under w.book w.pile (listed requests answers) (draws_in answers) ≡ answers }
+    ensures rosters { (w : World) (requests : List Request) →
+        let answers = run_answers w requests in
+        book_under w.book w.pile (listed requests answers) (draws_in answers) ≡ (run_world w requests).book }
+    ensures piles { (w : World) (requests : List Request) →
+        let answers = run_answers w requests in
+        pile_under w.book w.pile (listed requests answers) (draws_in answers) ≡ (run_world w requests).pile }
+{}
+
+// One list of calls under its own draws, and then another under other draws, is the list of both under the draws of both.
+pub fn lists_join()
+    ensures answers { (b : Book) (m : Meaning) (xs ys : List Listed) (s t : List ℕ) → draws_in (answers_under b m xs s) ≡ s →
+        answers_under b m (xs ++ ys) (s ++ t) ≡ answers_under b m xs s ++ answers_under (book_under b m xs s) (pile_under b m xs s) ys t }
+    ensures rosters { (b : Book) (m : Meaning) (xs ys : List Listed) (s t : List ℕ) → draws_in (answers_under b m xs s) ≡ s →
+        book_under b m (xs ++ ys) (s ++ t) ≡ book_under (book_under b m xs s) (pile_under b m xs s) ys t }
+    ensures piles { (b : Book) (m : Meaning) (xs ys : List Listed) (s t : List ℕ) → draws_in (answers_under b m xs s) ≡ s →
+        pile_under b m (xs ++ ys) (s ++ t) ≡ pile_under (book_under b m xs s) (pile_under b m xs s) ys t }
+{}
+
+// One run and then another is the run of both lists; and if the enters of both took from the source what their receipts hold, then so
+// do those of the one run.
 pub fn runs_join()
     ensures answers { (w : World) (xs ys : List Request) →
         run_answers w (xs ++ ys) ≡ run_answers w xs ++ run_answers (run_world w xs) ys }
     ensures worlds { (w : World) (xs ys : List Request) → run_world w (xs ++ ys) ≡ run_world (run_world w xs) ys }
+    ensures sources { (w : World) (xs ys : List Request) →
+        let half = run_world w xs in
+        let full = run_world w (xs ++ ys) in
+        TookFromSource w.course half.course (enter_receipts xs (run_answers w xs)) →
+        TookFromSource half.course full.course (enter_receipts ys (run_answers half ys)) →
+        TookFromSource w.course full.course (enter_receipts (xs ++ ys) (run_answers w (xs ++ ys))) }
 {}
 
-// A refused call or a question, put anywhere into a list, leaves radices, shares, samples, N and d as they were.
+// A run goes on where a list of calls under a tape has come to, whatever source it has: its calls after the others are again a list that
+// is rightly marked, and its draws after the others are a tape with that list's radices, under which the list comes to what was answered
+// and to what is left. So single calls, several runs and several sources make one list of calls.
+pub fn runs_go_on()
+    ensures { (m : Meaning) (b : Book) → New m → new_book b ≡ true → (calls : List Listed) (tape : List ℕ) →
+        RightlyMarked m b calls → Tape (list_radices m b calls) tape → (w : World) → w.book ≡ book_under b m calls tape →
+        w.pile ≡ pile_under b m calls tape → (requests : List Request) → GoesOn m b calls tape w requests }
+{}
+
+// A refused call or a question, put anywhere into a list, leaves radices, shares, samples, the counted live keys, N and d as they were;
+// and by the calls' own steps, under every tape, it leaves roster and pile and all other answers.
 pub fn no_matter()
     ensures { (m : Meaning) (b : Book) (first : List Listed) (item : Listed) (others : List Listed) →
         IdleIn m (ledger m b first) item → NoMatter m b first item others }
 {}
 
-// Every call keeps a roster well kept, whatever the pile: a key has one slot, and an open entry has a free slot for its tag and a key
-// that is not live.
+// A roster is new as its opening leaves it. Every call keeps a roster well kept, whatever the pile: a key has one slot, and an open
+// entry has a free slot for its tag and a key that is not live.
 pub fn rosters_are_well_kept()
+    ensures opened { (capacity : ℕ) → new_book (opened_book capacity) ≡ true }
     ensures new { (b : Book) → new_book b ≡ true → WellKept b }
     ensures after { (b : Book) (m : Meaning) (call : Call) (supply : Supply) → WellKept b → WellKept (step b m call supply).book }
 {}
@@ -90,16 +136,4 @@ pub fn rosters_are_well_kept()
 pub fn steady_sources()
     ensures { (w : World) (requests : List Request) → Steady w.course →
         TookFromSource w.course (run_world w requests).course (enter_receipts requests (run_answers w requests)) }
-{}
-
-// Four slots, two places; a, b and c enter and c leaves. Of the 6 tapes each of {a}, {b} and {a, b} has 2.
-pub fn worked_example()
-    ensures new { NewWorld new_start }
-    ensures all { all_tapes new_start.pile new_start.book its_calls ≡ 6 }
-    ensures first { tapes_for (key_a.form ∷ []) ≡ 2 }
-    ensures second { tapes_for (key_b.form ∷ []) ≡ 2 }
-    ensures both { tapes_for (key_a.form ∷ key_b.form ∷ []) ≡ 2 }
-    ensures none { tapes_for [] ≡ 0 }
-    ensures left { tapes_for (key_c.form ∷ []) ≡ 0 }
-    ensures whole { Promise new_start three_enter_one_leaves (run_answers new_start three_enter_one_leaves) (run_world new_start three_enter_one_leaves) }
 {}

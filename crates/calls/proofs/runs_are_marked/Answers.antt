@@ -1,5 +1,6 @@
-use Rattle.calls.proofs.Promised.{run_marked}
+use Rattle.calls.proofs.Joins.{marks_join}
+use Rattle.calls.proofs.Runs.{run_marked_from}
 use Rattle.calls.proofs.runs_are_marked.Goals as goal
 
 pub returns : goal.returns
-returns c = run_marked
+returns c = record { runs = run_marked_from; joined = marks_join }
