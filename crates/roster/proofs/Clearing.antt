@@ -3,8 +3,8 @@ use Rattle.std.proofs.Common.{◌≡◌, ℕ, zero, suc, ◌+◌, ◌<◌, ◌�
 use lib.ListN.{length-replicate}
 use Rattle.std.proofs.lemmas.List.{drop_more, set_at, replicate_more, append_assoc, take_at}
 use Rattle.std.proofs.lemmas.Bool.{and_parts, leb-true}
-use Rattle.calls.specs.Book.{KeyView, all_free, new_book}
-use Rattle.roster.specs.Opening.{cleared, or_none, capacity_passes, taken_capacity, opened_book}
+use Rattle.calls.specs.Book.{KeyView}
+use Rattle.roster.specs.Opening.{cleared, or_none, capacity_passes, taken_capacity}
 use Rattle.roster.specs.Rosters.{slot_of}
 use Rattle.roster.specs.declared.record.Record.{Record}
 use Rattle.roster.specs.declared.record.Record.TheVariants.{Free}
@@ -24,13 +24,6 @@ free_slots view (suc n) = ap (λ s. None ∷ s) (free_slots view n)
 pub cleared_slots : {K : Type 0} (view : K → KeyView) (records : List (Record K)) (n : ℕ) → map (slot_of view) (take n (cleared records n)) ≡ replicate n None
 cleared_slots view records n =
     ap (map (slot_of view)) (take_at (replicate n Free) (drop n records) n (length-replicate n Free)) ∙ free_slots view n
-
-all_none : (n : ℕ) → all_free (replicate n None) ≡ true
-all_none zero = refl
-all_none (suc n) = all_none n
-
-pub opened_new : (n : ℕ) → new_book (opened_book n) ≡ true
-opened_new n = ap (λ x. x && true) (all_none n)
 
 -- what is taken of a capacity fits the records and is at most 1,024
 pub taken_fits : (capacity records : ℕ) → (taken_capacity capacity records ≤ records) × (taken_capacity capacity records ≤ 1024)

@@ -1,8 +1,7 @@
 -- The question put before a roster is opened, and what the opening gives.
-use Rattle.std.specs.Prelude.{ℕ, Bool, true, false, ◌&&◌, List, ◌++◌, drop, replicate, None, nat_le}
+use Rattle.std.specs.Prelude.{ℕ, Bool, true, false, ◌&&◌, List, ◌++◌, drop, replicate, nat_le}
 use Rattle.pile.specs.Answers.{Told}
 use Rattle.pile.specs.Opening.{asked}
-use Rattle.calls.specs.Book.{Book}
 use Rattle.roster.specs.declared.record.Record.{Record}
 use Rattle.roster.specs.declared.record.Record.TheVariants.{Free}
 
@@ -20,10 +19,6 @@ or_none false n = 0
 
 abbrev pub taken_capacity : (capacity records : ℕ) → ℕ
 taken_capacity capacity records = or_none (capacity_passes capacity records) capacity
-
--- a new roster: free slots, and no open entry
-abbrev pub opened_book : (capacity : ℕ) → Book
-opened_book capacity = record { slots = replicate capacity None; entry = None }
 
 -- the records that it is lent are cleared as far as it uses them
 abbrev pub cleared : {K : Type 0} → List (Record K) → (capacity : ℕ) → List (Record K)

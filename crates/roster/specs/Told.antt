@@ -2,10 +2,13 @@
 use Rattle.std.specs.Prelude.{◌≡◌, Ok, Err, Result}
 use Rattle.pile.specs.declared.receipts.EntryReceipt.{EntryReceipt}
 use Rattle.pile.specs.declared.receipts.LeaveReceipt.{LeaveReceipt}
+use Rattle.sources.specs.Answers.{source_refusal as refusal-of}
 use Rattle.calls.specs.Calls.{Call, settle, withdraw}
-use Rattle.calls.specs.Steps.{Answer, refusal, slip, entered, withdrawn, left}
+use Rattle.calls.specs.Steps.{Answer, refusal, source_refusal, slip, entered, withdrawn, left}
 use Rattle.roster.specs.Numbers.{roster_fault_number}
 use Rattle.roster.specs.declared.faults.RosterFault.{RosterFault}
+use Rattle.roster.specs.declared.faults.EnterFault.{EnterFault}
+use Rattle.roster.specs.declared.faults.EnterFault.TheVariants.{Roster, Source}
 use Rattle.roster.specs.declared.slip.Slip.{Slip}
 use Rattle.roster.specs.declared.slip.Unsettled.{Unsettled}
 
@@ -28,6 +31,12 @@ settle_told (Err unsettled) = refusal (roster_fault_number unsettled.fault)
 abbrev pub withdraw_told : Result (Unit {0}) RosterFault → Answer
 withdraw_told (Ok u) = withdrawn
 withdraw_told (Err fault) = refusal (roster_fault_number fault)
+
+-- a source's fault comes back whole
+abbrev pub enter_told : Result EntryReceipt EnterFault → Answer
+enter_told (Ok receipt) = entered receipt
+enter_told (Err (Roster fault)) = refusal (roster_fault_number fault)
+enter_told (Err (Source fault)) = source_refusal (refusal-of fault).number (refusal-of fault).byte
 
 abbrev pub leave_told : Result LeaveReceipt RosterFault → Answer
 leave_told (Ok receipt) = left receipt

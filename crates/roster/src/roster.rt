@@ -4,8 +4,11 @@ ghost use Rattle.std.specs.Prelude.{◌≤◌, length};
 use crate::record::Record;
 
 pub mod changes;
+pub mod entering;
 pub mod openings;
 pub mod questions;
+pub mod requests;
+pub mod runs;
 pub mod searches;
 
 // The numbers of the open entry, as in its slip; its key waits in the record of its tag.

@@ -1,9 +1,9 @@
 // Opening a roster over lent records, and the question put beforehand.
 ghost use Rattle.std.specs.Prelude.{◌≡◌, ◌≤◌, true, length};
 ghost use Rattle.pile.specs.Answers.{told_by};
-ghost use Rattle.calls.specs.Book.{new_book};
+ghost use Rattle.calls.specs.Book.{new_book, opened_book};
 ghost use Rattle.roster.specs.Numbers.{capacity_fault_number};
-ghost use Rattle.roster.specs.Opening.{capacity_rule, taken_capacity, opened_book, cleared};
+ghost use Rattle.roster.specs.Opening.{capacity_rule, taken_capacity, cleared};
 ghost use Rattle.roster.specs.Rosters.{book_of};
 
 use super::Roster;

@@ -17,7 +17,7 @@ impl<'a, K: Key> Roster<'a, K> {
     }
 
     // The live key under a tag, if there is one.
-    fn key_of(&self, tag: u16) -> PlaceState<K>
+    pub fn key_of(&self, tag: u16) -> PlaceState<K>
         ensures { key_told K.view result ≡ Some (slice_index_or (book_of K.view self.now).slots tag None) }
     {
         let record = self.slots().get(usize::from(tag));

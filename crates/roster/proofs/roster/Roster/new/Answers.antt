@@ -1,8 +1,10 @@
 use Rattle.std.proofs.Common.{length, None, ap, ◌∙◌}
 use Rattle.calls.specs.Book.{new_book}
-use Rattle.roster.specs.Opening.{cleared, opened_book, taken_capacity}
+use Rattle.calls.specs.Book.{opened_book}
+use Rattle.calls.proofs.Rosters.{opened_is_new}
+use Rattle.roster.specs.Opening.{cleared, taken_capacity}
 use Rattle.roster.proofs.Books.{book_with}
-use Rattle.roster.proofs.Clearing.{cleared_slots, opened_new}
+use Rattle.roster.proofs.Clearing.{cleared_slots}
 use Rattle.roster.proofs.roster.Roster.new.Goals as goal
 
 pub returns : goal.returns
@@ -18,6 +20,6 @@ returns g c =
     ∙ ap opened_book taken in
     record {
       meaning = meaning;
-      new = ap new_book meaning ∙ opened_new (taken_capacity c.args.capacity (length rs));
+      new = ap new_book meaning ∙ opened_is_new (taken_capacity c.args.capacity (length rs));
       records = clears ∙ ap (cleared rs) taken;
     }
