@@ -1,154 +1,105 @@
-// Keeps the sample, and says what was done.
-use crate::line::{Line, LineFault, Who};
-use crate::setting::{Sample, Setting};
-use pile::{EntryReceipt, Pile, PlaceState, Tag};
-use sources::write_record;
+// Keeps the sample beside a roster, and says what was done.
+use crate::line::{KeyCall, Line};
+use crate::setting::{Sample, Settings};
+use crate::word::Word;
+use pile::EntryReceipt;
+use roster::{Roster, Slip};
+use sources::Source;
 use std::alloc::Global;
+use std::fmt;
 
-#[derive(Drop)]
+mod answers;
+mod entries;
+mod slips;
+
+// A slip cannot be let go, so whoever opens this has to end it by `close`.
 pub struct Keeper {
-    setting: Setting,
-    // opened by the first change or reading; a setting comes before it
-    sample: Option<Sample>,
+    heap: Global,
+    sample: Sample,
+    // the slip of the open entry
+    slip: Option<Slip>,
     // what the entries so far answered, for their tape
     receipts: Vec<EntryReceipt>,
 }
 
 impl Keeper {
-    pub fn new(heap: Global) -> Keeper {
+    pub fn open(heap: Global, settings: &Settings) -> Keeper {
         Keeper {
-            setting: Setting::usual(),
-            sample: None,
+            heap,
+            sample: settings.open_sample(),
+            slip: None,
             receipts: Vec::new(heap),
         }
     }
 
-    pub fn setting(&self) -> Setting {
-        self.setting
+    // Withdraws the entry that is still open.
+    pub fn close<'a, K: Word>(
+        self,
+        rt: &impl Print,
+        roster: &mut Roster<'a, K>,
+    ) -> anyhow::Result<()> {
+        let Keeper {
+            heap: _,
+            sample: _,
+            slip,
+            receipts: _,
+        } = self;
+        if let Some(slip) = slip {
+            let _ = roster.withdraw(slip);
+            println!(rt; "the end: the open entry is withdrawn")?;
+        }
+        Ok(())
     }
 
-    // Does what line `number` of the script asks. A match, since each kind of line has other parts.
-    pub fn follow(
+    // Does what line `number` of the script asks.
+    pub fn follow<'a, K: Word + fmt::Display, S: Source>(
         &mut self,
         rt: &impl Print,
+        roster: &mut Roster<'a, K>,
+        source: &mut S,
         number: usize,
-        line: Result<Line, LineFault>,
+        line: &Line,
     ) -> anyhow::Result<()> {
-        let old = self.setting;
         match line {
-            Err(fault) => println!(rt; "line {number}: {fault}")?,
-            Ok(Line::Blank) => {}
-            Ok(Line::Bound(bound)) => self.set(rt, number, Setting { bound, ..old })?,
-            Ok(Line::Classes(classes)) => self.set(rt, number, Setting { classes, ..old })?,
-            Ok(Line::Front(front)) => self.set(rt, number, Setting { front, ..old })?,
-            Ok(Line::Kind(kind)) => self.set(rt, number, Setting { kind, ..old })?,
-            Ok(Line::Enter { tag, who, draw }) => self.enter(rt, tag, who, draw)?,
-            Ok(Line::Leave { tag, who }) => self.leave(rt, tag, who)?,
-            Ok(Line::Read) => self.read(rt)?,
-            Ok(Line::Tape) => self.tape(rt)?,
-        }
-        Ok(())
-    }
-
-    fn set(&mut self, rt: &impl Print, number: usize, setting: Setting) -> anyhow::Result<()> {
-        if self.sample.is_some() {
-            println!(rt; "line {number}: a setting comes before the first change or reading")?;
-            return Ok(());
-        }
-        if let Err(fault) = setting.ask() {
-            println!(rt; "line {number}: refused {fault}")?;
-        }
-        self.setting = setting;
-        Ok(())
-    }
-
-    // The sample, which this opens where it is the first change or reading.
-    fn sample(&mut self, rt: &impl Print) -> anyhow::Result<&mut Sample> {
-        let setting = self.setting;
-        if self.sample.is_none() {
-            announce(rt, &setting.open())?;
-        }
-        Ok(self.sample.get_or_insert_with(|| setting.open()))
-    }
-
-    fn enter(&mut self, rt: &impl Print, tag: Tag, who: Who, draw: u16) -> anyhow::Result<()> {
-        let class = who.class();
-        let answer = self.sample(rt)?.entry(tag, class, draw);
-        print!(rt; "enter {tag}{who} of class {class}: ")?;
-        match answer {
-            Err(fault) => println!(rt; "refused {fault}")?,
-            Ok(receipt) => {
-                let EntryReceipt { radix, draw, place } = receipt;
-                print!(rt; "radix {radix}, draw {draw}, ")?;
-                match place {
-                    Some(place) => println!(rt; "place {place}")?,
-                    None => println!(rt; "no place")?,
+            Line::Blank => Ok(()),
+            Line::Unreadable => say(rt, number, "cannot be read"),
+            Line::Setting(_) => say(rt, number, "a setting comes before all else"),
+            Line::Source(_) => Ok(()),
+            Line::Key(call, word) => match K::from_word(word.as_str()) {
+                Ok(key) => self.call(rt, roster, source, *call, key),
+                Err(fault) => {
+                    println!(rt; "line {number}: {fault}")?;
+                    Ok(())
                 }
-                self.receipts.push(receipt)?;
-            }
-        }
-        Ok(())
-    }
-
-    fn leave(&mut self, rt: &impl Print, tag: Tag, who: Who) -> anyhow::Result<()> {
-        let class = who.class();
-        let answer = self.sample(rt)?.leave(tag, class);
-        print!(rt; "leave {tag}{who} of class {class}: ")?;
-        match answer {
-            Err(fault) => println!(rt; "refused {fault}")?,
-            Ok(receipt) => match receipt.place {
-                Some(place) => println!(rt; "place {place} is a hole now")?,
-                None => println!(rt; "no place")?,
             },
+            Line::Slip(call) => self.end_entry(rt, roster, number, *call),
+            Line::Question(question) => self.answer(rt, roster, *question),
         }
-        Ok(())
     }
 
-    fn read(&mut self, rt: &impl Print) -> anyhow::Result<()> {
-        let sample = self.sample(rt)?;
-        let (live, unpaired, standing) = sample.counts();
-        println!(rt; "read: N {live}, d {unpaired}, {standing} standing")?;
-        // a place is asked for by its number, which is printed
-        for i in 0..sample.bound() {
-            match sample.place(i) {
-                PlaceState::Held(tag) => println!(rt; "  {i}: {tag}")?,
-                PlaceState::Hole => println!(rt; "  {i}: hole")?,
-                PlaceState::NoSuchPlace => {}
+    fn call<'a, K: Word + fmt::Display, S: Source>(
+        &mut self,
+        rt: &impl Print,
+        roster: &mut Roster<'a, K>,
+        source: &mut S,
+        call: KeyCall,
+        key: K,
+    ) -> anyhow::Result<()> {
+        match call {
+            KeyCall::EnterWith(draw) => self.enter_with(rt, roster, key, draw),
+            KeyCall::Enter => self.enter(rt, roster, source, key),
+            KeyCall::Admit => self.admit(rt, roster, key),
+            KeyCall::Leave => self.leave(rt, roster, key),
+            KeyCall::IsLive => {
+                let answer = if roster.is_live(&key) { "yes" } else { "no" };
+                println!(rt; "live {key}: {answer}")?;
+                Ok(())
             }
         }
-        Ok(())
-    }
-
-    // The tape of the entries so far, a record to a line.
-    fn tape(&mut self, rt: &impl Print) -> anyhow::Result<()> {
-        self.sample(rt)?;
-        println!(rt; "tape:")?;
-        for receipt in &self.receipts {
-            print_record(rt, *receipt)?;
-        }
-        Ok(())
     }
 }
 
-fn announce(rt: &impl Print, sample: &Sample) -> anyhow::Result<()> {
-    let bound = sample.bound();
-    print!(rt; "a sample on at most {bound} places, of the classes")?;
-    for class in (0..8u8).filter(|class| sample.counts_class(*class)) {
-        print!(rt; " {class}")?;
-    }
-    println!(rt; "")?;
-    Ok(())
-}
-
-// Of a receipt only its record on a tape is printed, so this is no `Display` of receipts.
-fn print_record(rt: &impl Print, receipt: EntryReceipt) -> anyhow::Result<()> {
-    let mut bytes = [0u8; 6];
-    // six bytes are free, so this is never refused
-    let _ = write_record(receipt, &mut bytes, 0);
-    print!(rt; "  ")?;
-    for byte in bytes {
-        print!(rt; "{byte:02x}")?;
-    }
-    println!(rt; "")?;
+fn say(rt: &impl Print, number: usize, what: &str) -> anyhow::Result<()> {
+    println!(rt; "line {number}: {what}")?;
     Ok(())
 }

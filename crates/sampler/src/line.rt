@@ -1,136 +1,200 @@
 // One line of a script, read.
-use keys::{Key, KeyFault, Name, Number};
-use pile::Tag;
-use std::fmt;
-use std::num::ParseIntError;
-use thiserror::Error;
+use crate::setting::{Kind, Setting};
+use hex::FromHexError;
+use std::alloc::Global;
 
-// What stands between tag and draw on an enter or a leave.
-#[derive(Clone, Copy)]
-pub enum Kind {
-    // the class itself
-    Classes,
-    // a key, from which the class is taken
-    Numbers,
-    Names,
-}
-
-// Who enters or leaves.
-#[derive(Clone, Copy)]
-pub enum Who {
-    Class(u8),
-    Number(Number),
-    Name(Name),
-}
-
-// What a line asks for.
-#[derive(Clone, Copy)]
+// What a line asks for. Keys stay words until it is known of which kind they are.
+#[derive(Drop)]
 pub enum Line {
     // nothing stands on it, or a comment
     Blank,
-    Bound(u8),
-    // bit c for class c
-    Classes(u8),
-    Front(u8),
-    Kind(Kind),
-    Enter { tag: Tag, who: Who, draw: u16 },
-    Leave { tag: Tag, who: Who },
+    Unreadable,
+    Setting(Setting),
+    Source(Origin),
+    Key(KeyCall, String),
+    Slip(SlipCall),
+    Question(Question),
+}
+
+// Where draws come from.
+#[derive(Drop)]
+pub enum Origin {
+    Generator(u64),
+    Tape(Vec<u8>),
+}
+
+// A call that names a key.
+#[derive(Clone, Copy)]
+pub enum KeyCall {
+    // with the draw on the line
+    EnterWith(u16),
+    // with a draw of the source
+    Enter,
+    Admit,
+    Leave,
+    IsLive,
+}
+
+// A call that ends the open entry: with the slip that the program holds, or with one given by its numbers.
+#[derive(Clone, Copy)]
+pub enum SlipCall {
+    Settle(u16),
+    Withdraw,
+    SettleBy(Numbers, u16),
+    WithdrawBy(Numbers),
+}
+
+// The numbers of a slip.
+#[derive(Clone, Copy)]
+pub struct Numbers {
+    pub tag: u16,
+    pub class: u8,
+    pub radix: u16,
+}
+
+#[derive(Clone, Copy)]
+pub enum Question {
     Read,
+    Count,
+    OpenEntry,
+    Radix(u8),
+    Place(u8),
     // the records of the draws so far
     Tape,
 }
 
-// Why a line changes nothing.
-#[derive(Clone, Copy, Debug, Error)]
-pub enum LineFault {
-    #[error("cannot be read")]
-    Unreadable,
-    #[error("refused {0}")]
-    Key(#[from] KeyFault),
+fn read_u8(word: &str) -> Option<u8> {
+    word.parse::<u8>().ok()
 }
 
-impl From<ParseIntError> for LineFault {
-    fn from(_: ParseIntError) -> LineFault {
-        LineFault::Unreadable
-    }
+fn read_u16(word: &str) -> Option<u16> {
+    word.parse::<u16>().ok()
 }
 
-impl Who {
-    pub fn class(&self) -> u8 {
-        match self {
-            Who::Class(class) => *class,
-            Who::Number(number) => number.class(),
-            Who::Name(name) => name.class(),
-        }
-    }
-
-    fn read(kind: Kind, word: &str) -> Result<Who, LineFault> {
-        Ok(match kind {
-            Kind::Classes => Who::Class(word.parse()?),
-            Kind::Numbers => Who::Number(read_number(word)?),
-            Kind::Names => Who::Name(Name::new(word.as_bytes())?),
-        })
-    }
+// A setting's number: one above 65,535 cannot pass either, and counts as that.
+fn read_capacity(word: &str) -> Option<u16> {
+    let n = word.parse::<u32>().ok()?;
+    Some(n.min(65535) as u16)
 }
 
-// The key, if it is one.
-impl fmt::Display for Who {
-    fn fmt<W: fmt::Write>(&self, f: &mut fmt::Formatter<W>) -> fmt::Result {
-        match self {
-            Who::Class(_) => Ok(()),
-            Who::Number(number) => write!(f, ", number {number}"),
-            Who::Name(name) => write!(f, ", name {name}"),
-        }
-    }
-}
-
-fn read_number(word: &str) -> Result<Number, LineFault> {
-    let number = Number::new(word.parse()?);
-    if !number.is_lawful() {
-        return Err(LineFault::Key(KeyFault::Unlawful));
-    }
-    Ok(number)
-}
-
-// A setting's number: one above 255 cannot pass either, and counts as 255.
-fn read_size(word: &str) -> Result<u8, LineFault> {
-    let size: u32 = word.parse()?;
-    Ok(size.min(255) as u8)
+// Likewise with 255.
+fn read_size(word: &str) -> Option<u8> {
+    let n = word.parse::<u32>().ok()?;
+    Some(n.min(255) as u8)
 }
 
 // The class set that names each of these classes, 0 to 7.
-fn read_classes(words: &[&str]) -> Result<u8, LineFault> {
+fn read_classes(words: &[&str]) -> Option<u8> {
     let mut set = 0u8;
     for word in words {
-        let class: u16 = word.parse()?;
+        let class = read_u8(word)?;
         if class > 7 {
-            return Err(LineFault::Unreadable);
+            return None;
         }
         set |= 1 << class;
     }
-    Ok(set)
+    Some(set)
 }
 
-// The line that these words make, where keys are of this kind.
-pub fn parse(kind: Kind, words: &[&str]) -> Result<Line, LineFault> {
-    Ok(match words {
-        [] | ["#", ..] => Line::Blank,
-        ["bound", n] => Line::Bound(read_size(n)?),
-        ["classes", rest @ ..] => Line::Classes(read_classes(rest)?),
-        ["front", n] => Line::Front(read_size(n)?),
-        ["kind", "numbers"] => Line::Kind(Kind::Numbers),
-        ["kind", "names"] => Line::Kind(Kind::Names),
-        ["enter", tag, who, draw] => Line::Enter {
-            tag: tag.parse()?,
-            who: Who::read(kind, who)?,
-            draw: draw.parse()?,
-        },
-        ["leave", tag, who] => Line::Leave {
-            tag: tag.parse()?,
-            who: Who::read(kind, who)?,
-        },
-        ["read"] => Line::Read,
-        ["tape"] => Line::Tape,
-        _ => return Err(LineFault::Unreadable),
+fn read_numbers(tag: &str, class: &str, radix: &str) -> Option<Numbers> {
+    Some(Numbers {
+        tag: read_u16(tag)?,
+        class: read_u8(class)?,
+        radix: read_u16(radix)?,
     })
+}
+
+fn read_setting(words: &[&str]) -> Option<Setting> {
+    match words {
+        ["capacity", n] => Some(Setting::Capacity(read_capacity(n)?)),
+        ["bound", n] => Some(Setting::Bound(read_size(n)?)),
+        ["classes", rest @ ..] => Some(Setting::Classes(read_classes(rest)?)),
+        ["front", n] => Some(Setting::Front(read_size(n)?)),
+        ["kind", "numbers"] => Some(Setting::Kind(Kind::Numbers)),
+        ["kind", "names"] => Some(Setting::Kind(Kind::Names)),
+        _ => None,
+    }
+}
+
+fn read_key_call<'a>(words: &[&'a str]) -> Option<(KeyCall, &'a str)> {
+    match words {
+        ["enter", key, draw] => Some((KeyCall::EnterWith(read_u16(draw)?), *key)),
+        ["enter", key] => Some((KeyCall::Enter, *key)),
+        ["admit", key] => Some((KeyCall::Admit, *key)),
+        ["leave", key] => Some((KeyCall::Leave, *key)),
+        ["live", key] => Some((KeyCall::IsLive, *key)),
+        _ => None,
+    }
+}
+
+fn read_slip_call(words: &[&str]) -> Option<SlipCall> {
+    match words {
+        ["settle", draw] => Some(SlipCall::Settle(read_u16(draw)?)),
+        ["settle", tag, class, radix, draw] => Some(SlipCall::SettleBy(
+            read_numbers(tag, class, radix)?,
+            read_u16(draw)?,
+        )),
+        ["withdraw"] => Some(SlipCall::Withdraw),
+        ["withdraw", tag, class, radix] => Some(SlipCall::WithdrawBy(read_numbers(
+            tag, class, radix,
+        )?)),
+        _ => None,
+    }
+}
+
+fn read_question(words: &[&str]) -> Option<Question> {
+    match words {
+        ["read"] => Some(Question::Read),
+        ["count"] => Some(Question::Count),
+        ["open"] => Some(Question::OpenEntry),
+        ["radix", class] => Some(Question::Radix(read_u8(class)?)),
+        ["place", i] => Some(Question::Place(read_u8(i)?)),
+        ["tape"] => Some(Question::Tape),
+        _ => None,
+    }
+}
+
+// The bytes that pairs of hexadecimal digits spell; `-` stands for no byte.
+fn read_hex(heap: Global, text: &str) -> anyhow::Result<Option<Vec<u8>>> {
+    if text == "-" {
+        return Ok(Some(Vec::new(heap)));
+    }
+    match hex::decode(heap, text) {
+        Err(error @ FromHexError::OutOfMemory) => Err(error.into()),
+        decoded => Ok(decoded.ok()),
+    }
+}
+
+fn read_origin(heap: Global, from: &str, what: &str) -> anyhow::Result<Option<Origin>> {
+    Ok(match from {
+        "generator" => what.parse().ok().map(Origin::Generator),
+        "tape" => read_hex(heap, what)?.map(Origin::Tape),
+        _ => None,
+    })
+}
+
+// A line that names no key and no source.
+fn read_plain(words: &[&str]) -> Line {
+    if let Some(call) = read_slip_call(words) {
+        return Line::Slip(call);
+    }
+    if let Some(question) = read_question(words) {
+        return Line::Question(question);
+    }
+    read_setting(words).map_or(Line::Unreadable, Line::Setting)
+}
+
+// The line that these words make.
+pub fn parse(heap: Global, words: &[&str]) -> anyhow::Result<Line> {
+    match words {
+        [] | ["#", ..] => Ok(Line::Blank),
+        ["source", from, what] => match read_origin(heap, from, what)? {
+            Some(origin) => Ok(Line::Source(origin)),
+            None => Ok(Line::Unreadable),
+        },
+        words => match read_key_call(words) {
+            Some((call, key)) => Ok(Line::Key(call, String::from_str(heap, key)?)),
+            None => Ok(read_plain(words)),
+        },
+    }
 }

@@ -1,31 +1,57 @@
-// The program keeps a bounded sample by a script on standard input, and prints what it did.
-// The settings come first, then a line for each change or reading; docs/SCRIPT.md has the words.
+// The program keeps a roster and a bounded sample of it by a script on standard input, and prints what it did.
+// The settings come first, then a line for each change or question; docs/SCRIPT.md has the words.
 // The libraries below do the work and are proved; what is printed here is held to the file `stdout`.
 
 #![tactic(auto)]
 
-mod drawing;
 mod keeper;
 mod line;
+mod script;
 mod setting;
+mod word;
 
-use crate::keeper::Keeper;
+use crate::line::Line;
+use crate::script::Script;
+use crate::setting::{Kind, Settings};
+use keys::{Name, Number};
+use std::alloc::Global;
+
+fn read_all(rt: &HostRuntime, heap: Global) -> anyhow::Result<Vec<Line>> {
+    let mut lines = Vec::new(heap);
+    for text in rt.lines(heap) {
+        let text = text?;
+        let words: Vec<&str> = text.as_str().split_whitespace().collect(heap)?;
+        lines.push(line::parse(heap, words.as_slice())?)?;
+    }
+    Ok(lines)
+}
+
+// Takes the settings that come first, and answers how many lines they are.
+fn set_all(rt: &impl Print, settings: &mut Settings, lines: &[Line]) -> anyhow::Result<usize> {
+    for (before, line) in lines.iter().enumerate() {
+        match line {
+            Line::Blank => {}
+            Line::Setting(setting) => settings.set(rt, before + 1, *setting)?,
+            _ => return Ok(before),
+        }
+    }
+    Ok(lines.len())
+}
 
 fn run(rt: &HostRuntime) -> anyhow::Result<()> {
     let heap = rt.alloc();
-    let mut keeper = Keeper::new(heap);
-    for (before, text) in rt.lines(heap).enumerate() {
-        let text = text?;
-        let number = before.saturating_add(1);
-        let words: Vec<&str> = text.as_str().split_whitespace().collect(heap)?;
-        match words.as_slice() {
-            ["draws", from, what, radices @ ..] => drawing::follow(
-                rt, heap, number, from, what, radices,
-            )?,
-            words => keeper.follow(rt, number, line::parse(keeper.setting().kind, words))?,
-        }
+    let lines = read_all(rt, heap)?;
+    let mut settings = Settings::usual();
+    let begin = set_all(rt, &mut settings, lines.as_slice())?;
+    let script = Script {
+        lines: lines.as_slice(),
+        begin,
+    };
+    settings.say(rt)?;
+    match settings.kind {
+        Kind::Numbers => script.keep::<Number>(rt, heap, &settings),
+        Kind::Names => script.keep::<Name>(rt, heap, &settings),
     }
-    Ok(())
 }
 
 fn main(rt: HostRuntime) -> anyhow::Result<()> {

@@ -1,43 +1,103 @@
-// The setting of a sample, and its opening.
-use crate::line::Kind;
+// The settings of a roster and its sample, and their opening.
 use bottoms::Paired;
 use layers::{ClassFilter, Front};
-use pile::{OpeningFault, ask_bound, ask_classes, ask_front};
+use pile::{Pile, ask_bound, ask_classes, ask_front};
+use roster::ask_capacity;
 
 pub type Sample = Front<ClassFilter<Paired>>;
 
+// As many as a roster can use.
+pub const RECORDS: usize = 1024;
+
 #[derive(Clone, Copy)]
-pub struct Setting {
-    pub bound: u8,
+pub enum Kind {
+    Numbers,
+    Names,
+}
+
+// What a line sets.
+#[derive(Clone, Copy)]
+pub enum Setting {
+    Capacity(u16),
+    Bound(u8),
     // bit c for class c
+    Classes(u8),
+    Front(u8),
+    Kind(Kind),
+}
+
+#[derive(Clone, Copy)]
+pub struct Settings {
+    pub capacity: u16,
+    pub bound: u8,
     pub classes: u8,
     pub front: u8,
     pub kind: Kind,
 }
 
-impl Setting {
-    // Sixteen places, since a station usually drives sixteen trains; all classes; a front that hides nothing.
-    pub fn usual() -> Setting {
-        Setting {
+impl Settings {
+    // All the records; sixteen places, since a station usually drives sixteen trains; all classes; a front that hides nothing.
+    pub fn usual() -> Settings {
+        Settings {
+            capacity: 1024,
             bound: 16,
             classes: 255,
             front: 64,
-            kind: Kind::Classes,
+            kind: Kind::Names,
         }
     }
 
-    pub fn ask(&self) -> Result<(), OpeningFault> {
-        ask_bound(self.bound)?;
-        ask_classes(self.classes)?;
-        ask_front(self.front)?;
+    // Takes a setting, and says by which number it does not pass.
+    pub fn set(&mut self, rt: &impl Print, line: usize, setting: Setting) -> anyhow::Result<()> {
+        match setting {
+            Setting::Capacity(capacity) => {
+                self.capacity = capacity;
+                if let Err(fault) = ask_capacity(capacity, RECORDS) {
+                    println!(rt; "line {line}: refused {fault}")?;
+                }
+            }
+            Setting::Bound(bound) => {
+                self.bound = bound;
+                if let Err(fault) = ask_bound(bound) {
+                    println!(rt; "line {line}: refused {fault}")?;
+                }
+            }
+            Setting::Classes(classes) => {
+                self.classes = classes;
+                if let Err(fault) = ask_classes(classes) {
+                    println!(rt; "line {line}: refused {fault}")?;
+                }
+            }
+            Setting::Front(front) => {
+                self.front = front;
+                if let Err(fault) = ask_front(front) {
+                    println!(rt; "line {line}: refused {fault}")?;
+                }
+            }
+            Setting::Kind(kind) => self.kind = kind,
+        }
         Ok(())
     }
 
     // What does not pass counts as 1, or as no class.
-    pub fn open(&self) -> Sample {
+    pub fn open_sample(&self) -> Sample {
         Front::new(
             self.front,
             ClassFilter::new(self.classes, Paired::new(self.bound)),
         )
+    }
+
+    pub fn say(&self, rt: &impl Print) -> anyhow::Result<()> {
+        let capacity = ask_capacity(self.capacity, RECORDS).unwrap_or(0);
+        let sample = self.open_sample();
+        let bound = sample.bound();
+        print!(rt;
+            "a roster of at most {capacity} keys, a sample on at most {bound} places, of the classes"
+        )?;
+        for class in (0..8u8).filter(|class| sample.counts_class(*class)) {
+            print!(rt; " {class}")?;
+        }
+        println!(rt; "")?;
+        Ok(())
     }
 }
