@@ -2,11 +2,14 @@
 //
 // `Paired` takes entries and leaves, by random pairing over Algorithm R; `EntriesOnly` takes entries alone. They are one
 // type, `Bottom`, at two kinds. Both count every class. Promised: each keeps the contract of `pile::Pile`, with the meaning
-// that specs/Bottoms.antt gives it, and what an opening gives is new. Nothing here allocates or panics.
+// that specs/Bottoms.antt gives it; what an opening gives is new; and `Paired` takes leaves and `EntriesOnly` takes none (`kinds_tell`).
+// Nothing here allocates or panics.
 
 #![tactic(auto)]
 
-pub mod bottom;
+mod bottom;
+pub mod laws;
 mod places;
 
 pub use bottom::{EntriesOnly, Paired};
+pub use laws::kinds_tell;

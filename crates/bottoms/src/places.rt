@@ -12,7 +12,7 @@ use std::mem;
 
 // An empty slot is a hole. A contract sees the list of places.
 #[derive(Drop)]
-pub struct Places {
+pub(crate) struct Places {
     slots: ArrayVec<Option<Tag>, 64>,
 }
 
@@ -26,7 +26,7 @@ impl Model for Places {
 }
 
 impl Places {
-    pub fn new() -> Self
+    pub(crate) fn new() -> Self
         ensures { result ≡ [] }
     {
         Places {
@@ -34,7 +34,7 @@ impl Places {
         }
     }
 
-    pub fn state(&self, i: u8) -> PlaceState<Tag>
+    pub(crate) fn state(&self, i: u8) -> PlaceState<Tag>
         ensures { place_told result ≡ slice_get self.now i }
     {
         match self.slots.get(usize::from(i)) {
@@ -45,7 +45,7 @@ impl Places {
     }
 
     // How many places hold a tag.
-    pub fn standing(&self) -> u8
+    pub(crate) fn standing(&self) -> u8
         ensures { result ≡ standing self.now }
     {
         self.slots.iter().filter(|place| place.is_some()).count() as u8
@@ -84,7 +84,7 @@ impl Places {
     }
 
     // The tag takes hole `draw`, if there are that many.
-    pub fn fill(&mut self, tag: Tag, draw: u16) -> Option<u8>
+    pub(crate) fn fill(&mut self, tag: Tag, draw: u16) -> Option<u8>
         ensures place { result ≡ hole_place self.old draw }
         ensures after { self.new ≡ put self.old (hole_place self.old draw) (Some tag) }
     {
@@ -94,7 +94,7 @@ impl Places {
     }
 
     // The lowest place that holds the tag becomes a hole, if there is one.
-    pub fn vacate(&mut self, tag: Tag) -> Option<u8>
+    pub(crate) fn vacate(&mut self, tag: Tag) -> Option<u8>
         ensures place { result ≡ tag_place self.old tag }
         ensures after { self.new ≡ put self.old (tag_place self.old tag) None }
     {
@@ -105,7 +105,7 @@ impl Places {
 
     // The tag takes the place of its draw, below the bound. What stood there moves to the end while there is room. The rule tells
     // this by bound and N, so both are handed in.
-    pub fn take_drawn(&mut self, bound: u8, live: u16, tag: Tag, draw: u16) -> Option<u8>
+    pub(crate) fn take_drawn(&mut self, bound: u8, live: u16, tag: Tag, draw: u16) -> Option<u8>
         requires few { bound ≤ 64 }
         requires full { length self.old ≡ min bound live }
         requires drawn { draw ≤ live }

@@ -4,11 +4,10 @@ use Rattle.bottoms.specs.Bottoms.{opened}
 use Rattle.keys.specs.Numbers.{number_form, number_view}
 use Rattle.keys.specs.declared.number.Number.{Number}
 use Rattle.sources.specs.Tapes.{tape_course}
-use Rattle.calls.specs.Book.{KeyView, opened_book}
+use Rattle.calls.specs.Book.{opened_book}
 use Rattle.calls.specs.Lists.{listed}
 use Rattle.calls.specs.Promise.{tapes_giving}
-use Rattle.calls.specs.Runs.{World, run_answers, run_world}
-use Rattle.calls.specs.Runs.{Request as Asked}
+use Rattle.calls.specs.Runs.{Request as Asked, World, run_answers, run_world}
 use Rattle.calls.specs.Steps.{Answer as Said}
 use Rattle.roster.specs.Entering.{world}
 use Rattle.roster.specs.Opening.{taken_capacity}

@@ -1,13 +1,10 @@
 -- How many bytes a record takes.
-use Rattle.std.proofs.Common.{◌≡◌, ℕ, ◌+◌, ◌≤◌, Bool, true, false, leb, ◌⊎◌, List, length, drop, Some, None, Ok, sym, refl, ap, ◌∙◌, subst, ⊎_elim, arith}
+use Rattle.std.proofs.Common.{◌≡◌, ℕ, ◌+◌, ◌⊎◌, List, length, drop, Some, None, Ok, sym, refl, ap, ◌∙◌, subst, ⊎_elim}
 use Rattle.std.proofs.lemmas.List.{drop-drop}
-use Rattle.std.proofs.lemmas.Bool.{leb-true}
 use Rattle.keys.specs.Answers.{Reading, read, refused, left_after}
 use Rattle.calls.specs.Book.{KeyView}
 use Rattle.replays.specs.Kinds.{Kind, read_view, kind_by}
-use Rattle.replays.specs.Marks.{mark_SL, marked}
 use Rattle.replays.specs.Records.{LogRecord, enters, leaves, keyed, record_in, size}
-use Rattle.replays.specs.Settings.{Setting, opens_with, opened_when, opening}
 use Rattle.logs.specs.Told.{mark_told}
 use Rattle.logs.specs.declared.marks.Mark.{Mark}
 use Rattle.logs.specs.declared.marks.Mark.TheVariants.{Enter, Leave}
@@ -44,13 +41,3 @@ module _
       ∙ ap (λ bytes. left_after view (reading bytes) bytes) begins
       ∙ after_key mark has_key_lem
       ∙ ap (λ (r : LogRecord). drop (size r) left) what
-
--- a log that opens has the eight bytes of SL
-pub opens_whole : (log : List ℕ) (kind : Kind) (s : Setting) → opens_with kind s ≡ opening log → 8 ≤ length log
-opens_whole log kind s opens = by (leb 2 (length log)) (marked mark_SL log) (leb 8 (length log)) refl opens
-  where
-    by : (whole-mark is_SL whole : Bool) → leb 8 (length log) ≡ whole → opens_with kind s ≡ opened_when whole-mark is_SL whole log → 8 ≤ length log
-    by false is_SL whole e o = let z : ◌≡◌ {A = ℕ} 0 1 = cc in let no : ⊥ = omega arith in absurd no
-    by true false whole e o = let z : ◌≡◌ {A = ℕ} 0 1 = cc in let no : ⊥ = omega arith in absurd no
-    by true true false e o = let z : ◌≡◌ {A = ℕ} 0 1 = cc in let no : ⊥ = omega arith in absurd no
-    by true true true e o = leb-true 8 (length log) e

@@ -1,5 +1,5 @@
 -- Each fault's refusal: its number, its layer, and for a source its byte of the tape; and how each fault prints.
-use Rattle.std.specs.Prelude.{ℕ, List, ◌++◌, codes, decimal}
+use Rattle.std.specs.Prelude.{ℕ, ◌+◌, ◌-◌, ◌*◌, ◌&&◌, cond, List, [], ◌∷◌, ◌++◌, codes, decimal, nat_le, nat_lt}
 use Rattle.pile.specs.Answers.{opening_fault_number, opening_fault_text}
 use Rattle.keys.specs.Answers.{key_fault_text}
 use Rattle.keys.specs.declared.faults.KeyFault.{KeyFault}
@@ -42,10 +42,11 @@ abbrev pub from_entering : EnterFault → ReplayFault
 from_entering (of_roster fault) = Roster fault
 from_entering (of_source fault) = Source fault
 
+-- how each fault prints
 abbrev pub log_fault_text : LogFault → List ℕ
 log_fault_text Room = codes "21: the page or the records are too short"
 log_fault_text TooLong = codes "22: the log or the tape is too long"
-log_fault_text Cut = codes "23: the log ends inside a record"
+log_fault_text Cut = codes "23: the log ends before a record is whole"
 log_fault_text UnknownMark = codes "24: the mark or the kind of key is not known"
 log_fault_text TooManyReadings = codes "25: the log has more than 64 readings"
 log_fault_text BytesAfterEnd = codes "26: the log has bytes after its end"
@@ -63,3 +64,11 @@ replay_fault_text (Key fault) = key_text fault
 replay_fault_text (Roster fault) = roster_fault_text fault
 replay_fault_text (Source fault) = source_fault_text fault
 replay_fault_text (TapeLeft byte) = codes "27: the tape has bytes left (byte " ++ (decimal byte ++ codes ")")
+
+-- the number that a text begins with, in decimal
+abbrev pub number_from : (so_far : ℕ) → List ℕ → ℕ
+number_from so_far [] = so_far
+number_from so_far (byte ∷ bytes) = cond (nat_le 48 byte && nat_lt byte 58) (number_from (so_far * 10 + (byte - 48)) bytes) so_far
+
+abbrev pub number_first : List ℕ → ℕ
+number_first text = number_from 0 text

@@ -30,10 +30,11 @@ abbrev pub opened_told : Result (Kind × Setting) ReplayFault → Opened
 opened_told (Ok found) = opens_with (kind_told found.0) (setting_told found.1)
 opened_told (Err fault) = not_opened (fault_refusal 0 fault)
 
--- a record, for a look at its key, and why there is none
+-- no record, by layer and number of its refusal
 abbrev pub unread_by : Refusal → RecordMeant
 unread_by refusal = unread refusal.layer refusal.number
 
+-- a record, by how the rules look at its key; a record has no byte, so 0 stands for it
 abbrev pub record_told : {K : Type 0} → (view : K → KeyView) → Result (LogRecord K) ReplayFault → RecordMeant
 record_told view (Ok (Enter key)) = enters (view key)
 record_told view (Ok (Leave key)) = leaves (view key)
@@ -50,7 +51,7 @@ abbrev pub kind_answer : Result Kind LogFault → Told KindMeant
 kind_answer (Ok kind) = told (kind_told kind)
 kind_answer (Err fault) = refused (log_fault_number fault)
 
--- the settings pass, or why they do not, for both kinds
+-- the settings pass, or why they do not, whatever the kind
 abbrev pub asked_told : Result Setting ReplayFault → KindMeant → Opened
 asked_told (Ok s) kind = opens_with kind (setting_told s)
 asked_told (Err fault) kind = not_opened (fault_refusal 0 fault)

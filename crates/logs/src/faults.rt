@@ -16,7 +16,7 @@ pub enum LogFault {
     Room,
     // the log or the tape is too long
     TooLong,
-    // a mark or the fields after it are not whole
+    // a mark or the fields after it are not whole, or the end is missing
     Cut,
     // the mark, or the kind of key, is not known
     UnknownMark,
@@ -140,7 +140,7 @@ impl fmt::Display for LogFault {
         f.pad(match self {
             LogFault::Room => "21: the page or the records are too short",
             LogFault::TooLong => "22: the log or the tape is too long",
-            LogFault::Cut => "23: the log ends inside a record",
+            LogFault::Cut => "23: the log ends before a record is whole",
             LogFault::UnknownMark => "24: the mark or the kind of key is not known",
             LogFault::TooManyReadings => "25: the log has more than 64 readings",
             LogFault::BytesAfterEnd => "26: the log has bytes after its end",

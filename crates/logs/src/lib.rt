@@ -16,10 +16,12 @@
 #![tactic(auto)]
 
 pub mod faults;
+pub mod laws;
 mod marks;
 pub mod records;
 pub mod settings;
 
 pub use faults::{LogFault, ReplayFault};
+pub use laws::words_begin_with_numbers;
 pub use records::{LogRecord, after_record, read_record};
 pub use settings::{Kind, Setting, read_setting};

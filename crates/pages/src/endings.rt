@@ -7,12 +7,12 @@ ghost use Rattle.pages.specs.Writing.{next_after, page_with, Wrote};
 use crate::lines::{has_room, put_byte, put_number, put_text};
 use crate::refusal::Refusal;
 
-// END and the number of draws. Where fewer than 30 bytes are free, nothing is written.
+// END and the number of draws. Where fewer than 10 bytes are free, nothing is written.
 pub fn write_end(draws: u16, page: &mut [u8], at: usize) -> Option<usize>
-    ensures next { result ≡ next_after 30 (end_line draws) page.old at }
-    ensures page { page.new ≡ page_with 30 (end_line draws) page.old at }
+    ensures next { result ≡ next_after 10 (end_line draws) page.old at }
+    ensures page { page.new ≡ page_with 10 (end_line draws) page.old at }
 {
-    if !has_room(30, page, at) {
+    if !has_room(10, page, at) {
         return None;
     }
     let number_at = put_text(b"END ", page, at);

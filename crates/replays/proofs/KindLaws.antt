@@ -9,6 +9,7 @@ use Rattle.keys.specs.Numbers.{number_form, lawful_number, number_class, number_
 use Rattle.keys.specs.Texts.{lawful_text}
 use Rattle.keys.specs.declared.name.Name.{Name}
 use Rattle.keys.specs.declared.number.Number.{Number}
+use Rattle.keys.proofs.NumbersLemmas.{number_class_below}
 use Rattle.calls.specs.Book.{KeyView}
 use Rattle.replays.specs.Kinds.{found, key_refused, cut_short, read_view, read_print, kind_by, numbers, names, LawfulKind, PrintsKeys}
 
@@ -70,9 +71,6 @@ number_found n bytes e = search rules
 
 number_begins : (n : Number) (bytes : List ℕ) → number_reading bytes ≡ read n → bytes ≡ number_form n ++ drop (length (number_form n)) bytes
 number_begins n bytes e = search rules
-
-number_class_below : (n : Number) → number_class n < 8
-number_class_below n = search rules
 
 number_brief : (n : Number) → lawful_number n ≡ true → (1 ≤ length (number_printed n)) × (length (number_printed n) ≤ 8)
 number_brief n l =

@@ -30,7 +30,7 @@ refusal_in (was_read reading ∷ later) = refusal_in later
 refusal_in (ended draws ∷ later) = refusal_in later
 refusal_in (was_refused refusal ∷ later) = Some refusal
 
--- the receipts of entries, and those of leaves, in order
+-- the receipts of entries, in order
 abbrev pub entry_receipts : List Happening → List EntryReceipt
 entry_receipts [] = []
 entry_receipts (came_in key receipt ∷ later) = receipt ∷ entry_receipts later
@@ -38,14 +38,6 @@ entry_receipts (went_out key receipt ∷ later) = entry_receipts later
 entry_receipts (was_read reading ∷ later) = entry_receipts later
 entry_receipts (ended draws ∷ later) = entry_receipts later
 entry_receipts (was_refused refusal ∷ later) = entry_receipts later
-
-abbrev pub leave_receipts : List Happening → List LeaveReceipt
-leave_receipts [] = []
-leave_receipts (came_in key receipt ∷ later) = leave_receipts later
-leave_receipts (went_out key receipt ∷ later) = receipt ∷ leave_receipts later
-leave_receipts (was_read reading ∷ later) = leave_receipts later
-leave_receipts (ended draws ∷ later) = leave_receipts later
-leave_receipts (was_refused refusal ∷ later) = leave_receipts later
 
 -- the readings, in order
 abbrev pub readings : List Happening → List Reading

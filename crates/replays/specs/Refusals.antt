@@ -18,7 +18,8 @@ layer_word in_log = codes "log"
 
 pub record Refusal : Type 0 where
   pub number : ℕ
-  -- the byte of the log: where the record's mark begins, or the log's length where none does
+  -- the byte of the log: where the record's mark begins, or the log's length where none does; for 26 the first byte after ZZ, and for
+  -- 21 and 22 it is 0
   pub byte : ℕ
   pub layer : Layer
   -- the first byte of the tape that is not used, where the source refused

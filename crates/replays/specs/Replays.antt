@@ -2,7 +2,6 @@
 use Rattle.std.specs.Prelude.{ℕ, zero, suc, ◌+◌, ◌*◌, Bool, true, false, ◌&&◌, List, [], ◌∷◌, length, drop, Some, None, Option, ◌==◌, nat_le, nat_lt, slice_index}
 use Rattle.pile.specs.Answers.{Place}
 use Rattle.pile.specs.Meaning.{Meaning}
-use Rattle.sources.specs.Drawing.{put_front}
 use Rattle.sources.specs.Tapes.{tape_course}
 use Rattle.calls.specs.Book.{KeyView, Book}
 use Rattle.calls.specs.Calls.{Call, enter, leave}
@@ -178,7 +177,3 @@ outcome_when true true log tape =
 
 abbrev pub outcome : Room → (log tape : List ℕ) → Outcome
 outcome room log tape = outcome_when (room_enough room) (sizes_pass log tape) log tape
-
--- what then stands in the lent page: the bytes of the page first, and the bytes past those as they were
-abbrev pub page_after : Outcome → (lent : List ℕ) → List ℕ
-page_after o lent = put_front o.page lent

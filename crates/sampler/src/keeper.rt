@@ -13,7 +13,7 @@ mod entries;
 mod slips;
 
 // A slip cannot be let go, so whoever opens this has to end it by `close`.
-pub struct Keeper {
+pub(crate) struct Keeper {
     heap: Global,
     sample: Sample,
     // the slip of the open entry
@@ -23,7 +23,7 @@ pub struct Keeper {
 }
 
 impl Keeper {
-    pub fn open(heap: Global, settings: &Settings) -> Keeper {
+    pub(crate) fn open(heap: Global, settings: &Settings) -> Keeper {
         Keeper {
             heap,
             sample: settings.open_sample(),
@@ -33,7 +33,7 @@ impl Keeper {
     }
 
     // Withdraws the entry that is still open.
-    pub fn close<'a, K: Word>(
+    pub(crate) fn close<'a, K: Word>(
         self,
         rt: &impl Print,
         roster: &mut Roster<'a, K>,
@@ -52,7 +52,7 @@ impl Keeper {
     }
 
     // Does what line `number` of the script asks.
-    pub fn follow<'a, K: Word + fmt::Display, S: Source>(
+    pub(crate) fn follow<'a, K: Word + fmt::Display, S: Source>(
         &mut self,
         rt: &impl Print,
         roster: &mut Roster<'a, K>,

@@ -5,7 +5,7 @@ use std::alloc::Global;
 
 // What a line asks for. Keys stay words until it is known of which kind they are.
 #[derive(Drop)]
-pub enum Line {
+pub(crate) enum Line {
     // nothing stands on it, or a comment
     Blank,
     Unreadable,
@@ -18,14 +18,14 @@ pub enum Line {
 
 // Where draws come from.
 #[derive(Drop)]
-pub enum Origin {
+pub(crate) enum Origin {
     Generator(u64),
     Tape(Vec<u8>),
 }
 
 // A call that names a key.
 #[derive(Clone, Copy)]
-pub enum KeyCall {
+pub(crate) enum KeyCall {
     // with the draw on the line
     EnterWith(u16),
     // with a draw of the source
@@ -37,7 +37,7 @@ pub enum KeyCall {
 
 // A call that ends the open entry: with the slip that the program holds, or with one given by its numbers.
 #[derive(Clone, Copy)]
-pub enum SlipCall {
+pub(crate) enum SlipCall {
     Settle(u16),
     Withdraw,
     SettleBy(Numbers, u16),
@@ -46,14 +46,14 @@ pub enum SlipCall {
 
 // The numbers of a slip.
 #[derive(Clone, Copy)]
-pub struct Numbers {
+pub(crate) struct Numbers {
     pub tag: u16,
     pub class: u8,
     pub radix: u16,
 }
 
 #[derive(Clone, Copy)]
-pub enum Question {
+pub(crate) enum Question {
     Read,
     Count,
     OpenEntry,
@@ -185,7 +185,7 @@ fn read_plain(words: &[&str]) -> Line {
 }
 
 // The line that these words make.
-pub fn parse(heap: Global, words: &[&str]) -> anyhow::Result<Line> {
+pub(crate) fn parse(heap: Global, words: &[&str]) -> anyhow::Result<Line> {
     match words {
         [] | ["#", ..] => Ok(Line::Blank),
         ["source", from, what] => match read_origin(heap, from, what)? {

@@ -9,14 +9,14 @@ use std::alloc::{AllocError, Global};
 use std::fmt;
 
 #[derive(Drop)]
-pub struct Script<'a> {
+pub(crate) struct Script<'a> {
     pub lines: &'a [Line],
     // how many lines the settings took
     pub begin: usize,
 }
 
 impl<'a> Script<'a> {
-    pub fn keep<K: Word + fmt::Display>(
+    pub(crate) fn keep<K: Word + fmt::Display>(
         &self,
         rt: &impl Print,
         heap: Global,

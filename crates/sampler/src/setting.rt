@@ -1,23 +1,29 @@
 // The settings of a roster and its sample, and their opening.
+ghost use Rattle.std.specs.Prelude.{◌≡◌, true};
+ghost use Rattle.bottoms.specs.Bottoms.{bottom_meaning, opened};
+ghost use Rattle.layers.specs.Layers.{filtered, fronted};
+ghost use Rattle.pile.specs.Meaning.{New};
+ghost use Rattle.pile.specs.Opening.{taken_size};
+
 use bottoms::Paired;
 use layers::{ClassFilter, Front};
 use pile::{Pile, ask_bound, ask_classes, ask_front};
 use roster::ask_capacity;
 
-pub type Sample = Front<ClassFilter<Paired>>;
+pub(crate) type Sample = Front<ClassFilter<Paired>>;
 
 // As many as a roster can use.
-pub const RECORDS: usize = 1024;
+pub(crate) const RECORDS: usize = 1024;
 
 #[derive(Clone, Copy)]
-pub enum Kind {
+pub(crate) enum Kind {
     Numbers,
     Names,
 }
 
 // What a line sets.
 #[derive(Clone, Copy)]
-pub enum Setting {
+pub(crate) enum Setting {
     Capacity(u16),
     Bound(u8),
     // bit c for class c
@@ -27,7 +33,7 @@ pub enum Setting {
 }
 
 #[derive(Clone, Copy)]
-pub struct Settings {
+pub(crate) struct Settings {
     pub capacity: u16,
     pub bound: u8,
     pub classes: u8,
@@ -37,7 +43,7 @@ pub struct Settings {
 
 impl Settings {
     // All the records; sixteen places, since a station usually drives sixteen trains; all classes; a front that hides nothing.
-    pub fn usual() -> Settings {
+    pub(crate) fn usual() -> Settings {
         Settings {
             capacity: 1024,
             bound: 16,
@@ -48,7 +54,12 @@ impl Settings {
     }
 
     // Takes a setting, and says by which number it does not pass.
-    pub fn set(&mut self, rt: &impl Print, line: usize, setting: Setting) -> anyhow::Result<()> {
+    pub(crate) fn set(
+        &mut self,
+        rt: &impl Print,
+        line: usize,
+        setting: Setting,
+    ) -> anyhow::Result<()> {
         match setting {
             Setting::Capacity(capacity) => {
                 self.capacity = capacity;
@@ -80,14 +91,18 @@ impl Settings {
     }
 
     // What does not pass counts as 1, or as no class.
-    pub fn open_sample(&self) -> Sample {
+    pub(crate) fn open_sample(&self) -> Sample
+        ensures meaning { fronted result.size (filtered result.below.classes (bottom_meaning result.below.below))
+            ≡ fronted (taken_size self.now.front) (filtered self.now.classes (opened true self.now.bound)) }
+        ensures new { New (fronted result.size (filtered result.below.classes (bottom_meaning result.below.below))) }
+    {
         Front::new(
             self.front,
             ClassFilter::new(self.classes, Paired::new(self.bound)),
         )
     }
 
-    pub fn say(&self, rt: &impl Print) -> anyhow::Result<()> {
+    pub(crate) fn say(&self, rt: &impl Print) -> anyhow::Result<()> {
         let capacity = ask_capacity(self.capacity, RECORDS).unwrap_or(0);
         let sample = self.open_sample();
         let bound = sample.bound();

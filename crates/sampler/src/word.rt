@@ -5,7 +5,7 @@ use thiserror::Error;
 
 // Why a word is no key.
 #[derive(Clone, Copy, Debug, Error)]
-pub enum WordFault {
+pub(crate) enum WordFault {
     #[error("cannot be read")]
     Unreadable,
     #[error("refused {0}")]
@@ -19,7 +19,7 @@ impl From<ParseIntError> for WordFault {
 }
 
 // A kind of key that a word can stand for. An unlawful key is the roster's to refuse, where it can be made at all.
-pub trait Word: Key {
+pub(crate) trait Word: Key {
     fn from_word(word: &str) -> Result<Self, WordFault>;
 }
 

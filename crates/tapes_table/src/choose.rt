@@ -1,5 +1,5 @@
 // How many ways there are to choose k of n things. Up to the limit on tapes no number is large, so none is cut off.
-pub fn choose(n: u64, k: u64) -> u64 {
+pub(crate) fn choose(n: u64, k: u64) -> u64 {
     if k > n {
         return 0;
     }

@@ -5,13 +5,13 @@ use std::alloc::{AllocError, Global};
 
 // The radices, with the draws of the tape whose turn it is.
 #[derive(Drop)]
-pub struct Draws {
+pub(crate) struct Draws {
     pub entries: Vec<EntryReceipt>,
 }
 
 impl Draws {
     // The first tape has no draw above 0.
-    pub fn first(heap: Global, receipts: &[EntryReceipt]) -> Result<Draws, AllocError> {
+    pub(crate) fn first(heap: Global, receipts: &[EntryReceipt]) -> Result<Draws, AllocError> {
         let mut entries = Vec::new(heap);
         for receipt in receipts {
             entries.push(EntryReceipt {
@@ -23,7 +23,7 @@ impl Draws {
     }
 
     // How many tapes there are: the product of the radices.
-    pub fn count(&self) -> u64 {
+    pub(crate) fn count(&self) -> u64 {
         self.entries.iter().fold(
             1u64,
             |count, entry| count.saturating_mul(u64::from(entry.radix)),
@@ -31,7 +31,7 @@ impl Draws {
     }
 
     // The next tape: the last draw that can goes up, and those after it begin again.
-    pub fn advance(&mut self) {
+    pub(crate) fn advance(&mut self) {
         for entry in self.entries.iter_mut().rev() {
             if entry.draw < entry.radix.saturating_sub(1) {
                 entry.draw += 1;
@@ -42,7 +42,7 @@ impl Draws {
     }
 
     // The tape's records.
-    pub fn records(&self, heap: Global) -> Result<Vec<u8>, AllocError> {
+    pub(crate) fn records(&self, heap: Global) -> Result<Vec<u8>, AllocError> {
         let mut bytes = Vec::new(heap);
         for entry in self.entries.iter() {
             let mut record = [0; 6];

@@ -7,7 +7,7 @@ use std::num::ParseIntError;
 use thiserror::Error;
 
 #[derive(Drop)]
-pub struct List {
+pub(crate) struct List {
     pub bound: u8,
     pub changes: Vec<Request<Name>>,
 }
@@ -73,7 +73,7 @@ impl List {
     }
 
     // What cannot be taken is named by its line, and left out.
-    pub fn read(rt: &HostRuntime, heap: Global) -> anyhow::Result<List> {
+    pub(crate) fn read(rt: &HostRuntime, heap: Global) -> anyhow::Result<List> {
         let mut list = List {
             bound: 16,
             changes: Vec::new(heap),

@@ -10,14 +10,14 @@ use std::alloc::{AllocError, Global};
 // N, d and L: how many are live, how many leaves wait to be made up for, and how many places there have to be, which is the lesser of
 // bound and N + d.
 #[derive(Clone, Copy, PartialEq)]
-pub struct Counts {
+pub(crate) struct Counts {
     pub live: u64,
     pub unpaired: u64,
     pub places: u64,
 }
 
 #[derive(Drop)]
-pub struct Outcome {
+pub(crate) struct Outcome {
     pub answers: Vec<Answer<Name>>,
     pub counts: Counts,
     // the keys that stand, in order
@@ -61,7 +61,11 @@ fn standing<'a>(
 
 impl Outcome {
     // Carries out the changes over a new roster and a new pile.
-    pub fn of<S: Source>(heap: Global, list: &List, source: &mut S) -> Result<Outcome, AllocError> {
+    pub(crate) fn of<S: Source>(
+        heap: Global,
+        list: &List,
+        source: &mut S,
+    ) -> Result<Outcome, AllocError> {
         let size = list.changes.len().clamp(1, 1024);
         let mut records = free_records(heap, size)?;
         let mut answers = no_answers(heap, list.changes.len())?;
@@ -86,7 +90,7 @@ impl Outcome {
     }
 
     // What the entries answered.
-    pub fn receipts(&self, heap: Global) -> Result<Vec<EntryReceipt>, AllocError> {
+    pub(crate) fn receipts(&self, heap: Global) -> Result<Vec<EntryReceipt>, AllocError> {
         let mut receipts = Vec::new(heap);
         for answer in self.answers.iter() {
             if let Answer::Entered(receipt) = answer {

@@ -12,14 +12,14 @@ struct Row {
 }
 
 #[derive(Drop)]
-pub struct Table {
+pub(crate) struct Table {
     rows: Vec<Row>,
     tapes: u64,
     counts: Counts,
 }
 
 // A set of keys as it is printed.
-pub fn set_text(heap: Global, sample: &[String]) -> Result<String, AllocError> {
+pub(crate) fn set_text(heap: Global, sample: &[String]) -> Result<String, AllocError> {
     let mut text = String::from_str(heap, "{")?;
     let mut between = "";
     for key in sample {
@@ -42,7 +42,7 @@ impl Row {
 }
 
 impl Table {
-    pub fn new(heap: Global, tapes: u64, counts: Counts) -> Table {
+    pub(crate) fn new(heap: Global, tapes: u64, counts: Counts) -> Table {
         Table {
             rows: Vec::new(heap),
             tapes,
@@ -51,7 +51,7 @@ impl Table {
     }
 
     // Notes that this is the sample under one more tape.
-    pub fn note(&mut self, size: u64, text: String) -> Result<(), AllocError> {
+    pub(crate) fn note(&mut self, size: u64, text: String) -> Result<(), AllocError> {
         if let Some(row) = self.rows.iter_mut().find(|row| row.text == text) {
             row.tapes = row.tapes.saturating_add(1);
             return Ok(());
@@ -65,7 +65,7 @@ impl Table {
     }
 
     // Whether N, d and L are those that the shares are worked out from.
-    pub fn is_for(&self, counts: Counts) -> bool {
+    pub(crate) fn is_for(&self, counts: Counts) -> bool {
         self.counts == counts
     }
 
@@ -78,7 +78,7 @@ impl Table {
     }
 
     // Prints the rows, and whether they agree with choose.
-    pub fn print(&mut self, rt: &impl Print) -> anyhow::Result<()> {
+    pub(crate) fn print(&mut self, rt: &impl Print) -> anyhow::Result<()> {
         self.rows.sort()?;
         let choices = self.choices().max(1);
         let mut tapes = 0u64;
