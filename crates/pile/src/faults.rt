@@ -79,15 +79,19 @@ impl OpeningFault {
 impl fmt::Display for PileFault {
     ghost output = { λ fault. Some (pile_fault_text fault) };
 
+    ghost styled_output = { λ fault _. Some (pile_fault_text fault) };
+
     fn fmt<W: fmt::Write>(&self, f: &mut fmt::Formatter<W>) -> fmt::Result {
-        f.pad(self.text())
+        f.write_str(self.text())
     }
 }
 
 impl fmt::Display for OpeningFault {
     ghost output = { λ fault. Some (opening_fault_text fault) };
 
+    ghost styled_output = { λ fault _. Some (opening_fault_text fault) };
+
     fn fmt<W: fmt::Write>(&self, f: &mut fmt::Formatter<W>) -> fmt::Result {
-        f.pad(self.text())
+        f.write_str(self.text())
     }
 }

@@ -20,7 +20,7 @@ pub struct LeaveReceipt {
 // What a place tells: what it holds (a tag, or the key that the tag marks), that it is a hole, or that there is no such place.
 // No option of an option: there a hole would be `Some(None)`.
 #[derive(Clone, Copy, PartialEq, Eq, Debug)]
-pub enum PlaceState<T> {
+pub enum PlaceState<T = Tag> {
     Held(T),
     Hole,
     NoSuchPlace,

@@ -118,15 +118,19 @@ impl fmt::Display for SourceFault {
 impl fmt::Display for SeedFault {
     ghost output = { λ e. Some (seed_fault_text e) };
 
+    ghost styled_output = { λ e _. Some (seed_fault_text e) };
+
     fn fmt<W: fmt::Write>(&self, f: &mut fmt::Formatter<W>) -> fmt::Result {
-        f.pad(self.text())
+        f.write_str(self.text())
     }
 }
 
 impl fmt::Display for WriteFault {
     ghost output = { λ e. Some (write_fault_text e) };
 
+    ghost styled_output = { λ e _. Some (write_fault_text e) };
+
     fn fmt<W: fmt::Write>(&self, f: &mut fmt::Formatter<W>) -> fmt::Result {
-        f.pad(self.text())
+        f.write_str(self.text())
     }
 }
