@@ -1,7 +1,9 @@
 // What a name does as a key.
 ghost use Rattle.std.specs.Prelude.{◌≡◌, ◌≤◌, true, ◌∷◌, length};
 ghost use Rattle.keys.specs.Answers.{read_told};
-ghost use Rattle.keys.specs.Names.{name_view, class_by, named, name_reading};
+ghost use Rattle.keys.specs.Bytes.{put_count, put_buffer};
+ghost use Rattle.keys.specs.Index.{index_of};
+ghost use Rattle.keys.specs.Names.{name_form, name_class, name_view, class_by, named, name_reading};
 ghost use Rattle.keys.specs.Texts.{lawful_length, lawful_byte, lawful_bytes, lawful_text, padded_text};
 ghost use Rattle.keys.specs.NamesLemmas.{text_bytes, text_from_padded};
 ghost use Rattle.std.proofs.Common.{rules};
@@ -92,6 +94,7 @@ impl Name {
     }
 }
 
+// A contract sees a name as its text, and a text need not be lawful; so each call says of its name that it is.
 impl Key for Name {
     ghost view = { name_view };
 
@@ -126,15 +129,24 @@ impl Key for Name {
         true
     }
 
-    fn class(&self) -> u8 {
+    fn class(&self) -> u8
+        ensures value { result ≡ name_class self.now }
+        ensures lawful { lawful_text self.now ≡ true }
+    {
         class_by(self.bytes[0])
     }
 
-    fn index(&self) -> u16 {
+    fn index(&self) -> u16
+        ensures value { result ≡ index_of (name_form self.now) }
+        ensures lawful { lawful_text self.now ≡ true }
+    {
         mix_all(mix(0, self.len), self.text())
     }
 
-    fn size(&self) -> usize {
+    fn size(&self) -> usize
+        ensures value { result ≡ length (name_form self.now) }
+        ensures lawful { lawful_text self.now ≡ true }
+    {
         1 + usize::from(self.len)
     }
 
@@ -152,7 +164,11 @@ impl Key for Name {
         Name::new(&rest[..len])
     }
 
-    fn write(&self, into: &mut [u8], at: usize) -> Option<usize> {
+    fn write(&self, into: &mut [u8], at: usize) -> Option<usize>
+        ensures count { result ≡ put_count (name_form self.now) into.old at }
+        ensures after { into.new ≡ put_buffer (name_form self.now) into.old at }
+        ensures lawful { lawful_text self.now ≡ true }
+    {
         let form = self.to_bytes();
         put(into, at, &form[..self.size()])
     }
