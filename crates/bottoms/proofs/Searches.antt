@@ -1,30 +1,32 @@
 -- What std's searches over the places find, in the words of the rules, and that it is a place.
-use Rattle.std.proofs.Common.{◌≡◌, ℕ, zero, suc, ◌+◌, ◌<◌, Bool, true, false, List, [], ◌∷◌, length, is_some, not, cond, option_map, eqb, IfSome, Some, None, Option, Bor, count_by, sym, refl, ap, ◌∙◌, arith}
+use Rattle.std.proofs.Common.{◌≡◌, ℕ, zero, suc, ◌+◌, ◌<◌, ◌≤◌, Bool, true, false, List, [], ◌∷◌, length, is_some, not, cond, option_map, eqb, IfSome, Some, None, Option, Bor, sym, refl, ap, ◌∙◌, arith}
 use Rattle.std.specs.List.{position, position_from, filter, enumerate_from, slice_get}
 use Rattle.std.specs.Option.{option_eq}
-use Rattle.std.proofs.lemmas.List.Recursion.{is_count_by}
 use Rattle.std.proofs.lemmas.Iterator.Adapters.{position_from-zero}
 use Rattle.pile.specs.Answers.{Place}
 use Rattle.pile.specs.Meaning.{standing}
 use Rattle.pile.specs.Rules.{further, hole_place, holds_tag, tag_place, tag_place_when}
 
-pub standing_count : (ps : List Place) → standing ps ≡ count_by is_some ps
-standing_count = is_count_by standing is_some refl step
-  where
-    step : (p : Place) (ps : List Place) → standing (p ∷ ps) ≡ cond (is_some p) (1 + standing ps) (standing ps)
-    step (Some t) ps = omega arith
-    step None ps = refl
+-- one place more, as a count of what is there
+pub standing_step : (p : Place) (ps : List Place) → standing (p ∷ ps) ≡ cond (is_some p) (1 + standing ps) (standing ps)
+standing_step (Some t) ps = omega arith
+standing_step None ps = refl
+
+pub standing_few : (ps : List Place) → standing ps ≤ length ps
+standing_few [] = omega arith
+standing_few (Some t ∷ ps) = omega (arith, standing_few ps)
+standing_few (None ∷ ps) = omega (arith, standing_few ps)
 
 -- n places further on
-abbrev moved : ℕ → Option ℕ → Option ℕ
+abbrev pub moved : ℕ → Option ℕ → Option ℕ
 moved n None = None
 moved n (Some i) = Some (n + i)
 
-moved_none : (o : Option ℕ) → moved 0 o ≡ o
+pub moved_none : (o : Option ℕ) → moved 0 o ≡ o
 moved_none None = refl
 moved_none (Some i) = ap Some (omega arith)
 
-moved_more : (n : ℕ) (o : Option ℕ) → moved n (further o) ≡ moved (n + 1) o
+pub moved_more : (n : ℕ) (o : Option ℕ) → moved n (further o) ≡ moved (n + 1) o
 moved_more n None = refl
 moved_more n (Some i) = ap Some (omega arith)
 
@@ -65,7 +67,7 @@ number_of None = refl
 number_of (Some q) = refl
 
 -- what a search finds is one of n places
-abbrev Within : Option ℕ → ℕ → Type 0
+abbrev pub Within : Option ℕ → ℕ → Type 0
 Within o n = IfSome o (λ i. i < n)
 
 further_within : (o : Option ℕ) (n : ℕ) → Within o n → Within (further o) (suc n)

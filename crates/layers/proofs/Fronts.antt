@@ -148,6 +148,21 @@ stands None = false
 stands (Some None) = false
 stands (Some (Some t)) = true
 
+pub filter_step : {X : Type 0} (p : X → Bool) (x : X) (xs : List X) → length (filter p (x ∷ xs)) ≡ cond (p x) (1 + length (filter p xs)) (length (filter p xs))
+filter_step p x xs = by (p x)
+  where
+    by : (b : Bool) → length (cond b (x ∷ filter p xs) (filter p xs)) ≡ cond b (1 + length (filter p xs)) (length (filter p xs))
+    by true = omega arith
+    by false = refl
+
+pub filter_few : {X : Type 0} (p : X → Bool) (xs : List X) → length (filter p xs) ≤ length xs
+filter_few p [] = omega arith
+filter_few p (x ∷ xs) = by (p x) (filter_few p xs)
+  where
+    by : (b : Bool) → length (filter p xs) ≤ length xs → length (cond b (x ∷ filter p xs) (filter p xs)) ≤ length (x ∷ xs)
+    by true few = omega (arith, few)
+    by false few = omega (arith, few)
+
 pub standing_counted : (ps : List Place) (s : ℕ) → length (filter (λ i. stands (slice_get ps i)) (range_with_len 0 s)) ≡ standing (take s ps)
 standing_counted ps s = length-filter (λ i. stands (slice_get ps i)) (range_with_len 0 s) ∙ sym (fold-map _ (slice_get ps) 0 (range_with_len 0 s)) ∙ by s
   where

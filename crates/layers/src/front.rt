@@ -39,9 +39,11 @@ impl<P: Pile> Front<P> {
     fn standing(&self) -> u8
         ensures { result ≡ standing (take self.now.size (P.meaning self.now.below).places) }
     {
-        (0..self.size)
-            .filter(|i| matches!(self.below.place(*i), PlaceState::Held(_)))
-            .count() as u8
+        // a fold, since `filter` and `count` take more than twice the time
+        (0..self.size).fold(0usize, |count, i| match self.below.place(i) {
+            PlaceState::Held(_) => count.wrapping_add(1),
+            _ => count,
+        }) as u8
     }
 }
 

@@ -7,3 +7,4 @@ pub mod Rounds
 pub mod Runs
 pub mod Slips
 pub mod Slots
+pub mod Turns

@@ -1,7 +1,6 @@
 -- The slots that lent records stand for, and the searches over them, step by step.
-use Rattle.std.proofs.Common.{count_by, not, cond, ◌∷◌, ◌≡◌, ℕ, ◌+◌, ◌<◌, ◌≤◌, true, List, map, length, get_or, take, IfSome, Some, None, Option, zero-add, sym, refl, ap, ◌∙◌, subst, arith}
+use Rattle.std.proofs.Common.{not, cond, ◌∷◌, ◌≡◌, ℕ, ◌+◌, ◌<◌, ◌≤◌, true, List, [], map, length, get_or, take, IfSome, Some, None, Option, zero-add, sym, refl, ap, ◌∙◌, subst, arith}
 use Rattle.std.proofs.lemmas.List.{length-map, length-take-le, get_or-map}
-use Rattle.std.proofs.lemmas.List.Recursion.{is_count_by}
 use Rattle.std.proofs.lemmas.Bool.{false≢true}
 use Rattle.calls.specs.Book.{KeyView, OpenEntry, live_count, is_free}
 use Rattle.roster.specs.Rosters.{slot_of, open_told, waiting}
@@ -21,14 +20,17 @@ slots_length view records cap within = length-map (take cap records) (slot_of vi
 pub slot_read : {K : Type 0} (view : K → KeyView) (rs : List (Record K)) (i : ℕ) (z : Record K) → i < length rs → z ≡ get_or rs i z → slot_of view z ≡ get_or (map (slot_of view) rs) i None
 slot_read view rs i z h e = sym (get_or-map (slot_of view) rs i z None h ∙ ap (slot_of view) (sym e))
 
--- counting the live ones
-pub live_counted : {K : Type 0} (view : K → KeyView) (rs : List (Record K)) → live_count (map (slot_of view) rs) ≡ count_by (λ r. not (is_free (slot_of view r))) rs
-live_counted view = is_count_by (λ rs. live_count (map (slot_of view) rs)) (λ r. not (is_free (slot_of view r))) refl one_more
-  where
-    one_more : (r : Record _) (rs : List (Record _)) → live_count (map (slot_of view) (r ∷ rs)) ≡ cond (not (is_free (slot_of view r))) (1 + live_count (map (slot_of view) rs)) (live_count (map (slot_of view) rs))
-    one_more Free rs = zero-add _
-    one_more (Waiting key) rs = zero-add _
-    one_more (Live key) rs = refl
+-- one record more, as a count of the live ones
+pub live_step : {K : Type 0} (view : K → KeyView) (r : Record K) (rs : List (Record K)) → live_count (map (slot_of view) (r ∷ rs)) ≡ cond (not (is_free (slot_of view r))) (1 + live_count (map (slot_of view) rs)) (live_count (map (slot_of view) rs))
+live_step view Free rs = zero-add _
+live_step view (Waiting key) rs = zero-add _
+live_step view (Live key) rs = refl
+
+pub live_few : {K : Type 0} (view : K → KeyView) (rs : List (Record K)) → live_count (map (slot_of view) rs) ≤ length rs
+live_few view [] = omega arith
+live_few view (Free ∷ rs) = omega (arith, live_step view Free rs, live_few view rs)
+live_few view (Waiting key ∷ rs) = omega (arith, live_step view (Waiting key) rs, live_few view rs)
+live_few view (Live key ∷ rs) = omega (arith, live_step view (Live key) rs, live_few view rs)
 
 pub free_slot : (slot : Option KeyView) → is_free slot ≡ true → slot ≡ None
 free_slot None e = refl

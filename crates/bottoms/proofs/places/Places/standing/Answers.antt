@@ -1,15 +1,18 @@
-use Rattle.std.proofs.Common.{rules, ◌≡◌, ◌≤◌, is_some, length, arith, count_by}
-use Rattle.std.proofs.lemmas.List.Sums.{count_by-le-length}
-use Rattle.bottoms.proofs.Searches.{standing_count}
+use Rattle.std.proofs.Common.{rules, ◌≡◌, ◌≤◌, is_some, length, refl, arith}
+use Rattle.std.specs.List.{fold}
+use Rattle.pile.proofs.Counts.{one_more, count_folded}
+use Rattle.pile.specs.Meaning.{standing}
+use Rattle.bottoms.proofs.Searches.{standing_step, standing_few}
 use Rattle.bottoms.proofs.places.Places.standing.Goals as goal
 
 pub overflow_cast-result : goal.overflow_cast-result
 overflow_cast-result c =
-    let e : c.count.result ≡ count_by is_some c.args.self.now = search rules in
+    let counted : c.fold.result ≡ fold (one_more is_some) 0 c.args.self.now = search rules in
     let few : length c.args.self.now ≤ 64 = search rules in
-    omega (arith, count_by-le-length is_some c.args.self.now)
+    omega (arith, counted, few, standing_few c.args.self.now, count_folded standing is_some refl standing_step c.args.self.now 0 (omega (arith, few)))
 
 pub returns : goal.returns
 returns c =
-    let e : c.count.result ≡ count_by is_some c.args.self.now = search rules in
-    cc (standing_count c.args.self.now)
+    let counted : c.fold.result ≡ fold (one_more is_some) 0 c.args.self.now = search rules in
+    let few : length c.args.self.now ≤ 64 = search rules in
+    omega (arith, counted, count_folded standing is_some refl standing_step c.args.self.now 0 (omega (arith, few)))
