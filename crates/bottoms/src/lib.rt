@@ -8,7 +8,9 @@
 #![tactic(auto)]
 
 mod bottom;
+pub mod entries_only;
 pub mod laws;
+pub mod paired;
 mod places;
 
 pub use bottom::{EntriesOnly, Paired};

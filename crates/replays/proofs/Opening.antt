@@ -6,6 +6,7 @@ use Rattle.pile.specs.Answers.{Told, told, refused}
 use Rattle.pile.specs.Meaning.{Sound, New}
 use Rattle.pile.specs.Opening.{asked, one_to_64, or_one, taken_size}
 use Rattle.bottoms.specs.Bottoms.{opened, all_classes}
+use Rattle.bottoms.proofs.Bottoms.{opened_sound}
 use Rattle.layers.specs.Layers.{in_set, filtered, fronted}
 use Rattle.layers.specs.Fronts.{fronted_sound, fronted_new}
 use Rattle.calls.specs.Book.{KeyView, opened_book}
@@ -92,10 +93,6 @@ opening_comes log = by_marks (leb 2 (length log)) (marked mark_SL log) (leb 8 (l
     by_marks true false all e w = opening_unknown (omega (arith, leb-true 2 (length log) e))
     by_marks true true false e w = opening_cut
     by_marks true true true e w = by_kind (eqb (get_or log 2 0) 78) (eqb (get_or log 2 0) 66) refl (leb-true 8 (length log) w)
-
--- a bottom as it is opened is sound
-opened_sound : (leaves : Bool) (bound : ℕ) → Sound (opened leaves bound)
-opened_sound leaves bound = search rules
 
 -- what it opens is new and sound
 pub new_sound : (s : Setting) → Passed s → Sound (new_pile s)

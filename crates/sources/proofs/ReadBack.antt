@@ -9,7 +9,7 @@ use Rattle.sources.specs.Records.{written, written_all, Lawful, AllLawful, recor
 use Rattle.sources.specs.Tapes.{tape_answer, tape_course}
 
 -- a tape that stands before a record answers its draw
-answers_back : (bytes rest : List ℕ) (k : ℕ) (e : EntryReceipt) → Lawful e → drop (6 * k) bytes ≡ record_bytes e.radix e.draw ++ rest → tape_answer bytes k e.radix ≡ drew e.draw
+pub answers_back : (bytes rest : List ℕ) (k : ℕ) (e : EntryReceipt) → Lawful e → drop (6 * k) bytes ≡ record_bytes e.radix e.draw ++ rest → tape_answer bytes k e.radix ≡ drew e.draw
 answers_back bytes rest k e h left = search rules
 
 -- and one that stands before the records of a list of receipts gives their draws
@@ -22,7 +22,7 @@ lists_back bytes k (e ∷ es) rest all left more =
     let rest_back = lists_back bytes (k + 1) es rest all.1 later more in
     grind (arith, common_steps, first, rest_back)
 
-length_records : (es : List EntryReceipt) → length (records_of es) ≡ 6 * length es
+pub length_records : (es : List EntryReceipt) → length (records_of es) ≡ 6 * length es
 length_records [] = search rules
 length_records (e ∷ es) = search (rules, length_records es)
 

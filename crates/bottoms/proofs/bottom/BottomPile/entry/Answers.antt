@@ -12,7 +12,7 @@ invariant_of-self g c =
     let m = bottom_meaning c.args.self.now in
     let none = c.if-self-eq0.true in
     let radix = radix_joined m c.args.class c.in_ok-radix.radix c.in_ok-radix.ensures (lt-ltb c.args.class 8 c.if-class-ge8.false) none in
-    let places : c.take_drawn-place.new.self ≡ (joined m c.args.tag c.args.draw).places = c.take_drawn-place.ensures.after in
+    let places : c.take_drawn-place.new.self ≡ (joined m c.args.tag c.args.draw).places = search (rules, c.take_drawn-place.ensures.after) in
     search (rules, joined_sound m c.args.tag c.args.draw (search rules) none radix.1 (omega (arith, radix.0)), ap length places, ap holes places)
 
 pub invariant_of-self-2 : goal.invariant_of-self-2

@@ -1,0 +1,2 @@
+// The bottom that takes none, by its own path too.
+pub use crate::bottom::EntriesOnly;

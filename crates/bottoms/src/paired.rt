@@ -1,0 +1,2 @@
+// The bottom that takes leaves, by its own path too.
+pub use crate::bottom::Paired;
