@@ -1,8 +1,9 @@
--- What std's searches over the places find, in the words of the rules, and that it is a place.
+-- What std's searches over the places find, in the words of the rules, and that it is a place; and what a fold over them counts.
 use Rattle.std.proofs.Common.{◌≡◌, ℕ, zero, suc, ◌+◌, ◌<◌, ◌≤◌, Bool, true, false, List, [], ◌∷◌, length, is_some, not, cond, option_map, eqb, IfSome, Some, None, Option, Bor, sym, refl, ap, ◌∙◌, arith}
-use Rattle.std.specs.List.{position, position_from, filter, enumerate_from, slice_get}
+use Rattle.std.specs.List.{position, position_from, filter, fold, enumerate_from, slice_get}
 use Rattle.std.specs.Option.{option_eq}
 use Rattle.std.proofs.lemmas.Iterator.Adapters.{position_from-zero}
+use Rattle.pile.proofs.Counts.{one_more, counted}
 use Rattle.pile.specs.Answers.{Place}
 use Rattle.pile.specs.Meaning.{standing}
 use Rattle.pile.specs.Rules.{further, hole_place, holds_tag, tag_place, tag_place_when}
@@ -12,10 +13,9 @@ pub standing_step : (p : Place) (ps : List Place) → standing (p ∷ ps) ≡ co
 standing_step (Some t) ps = omega arith
 standing_step None ps = refl
 
-pub standing_few : (ps : List Place) → standing ps ≤ length ps
-standing_few [] = omega arith
-standing_few (Some t ∷ ps) = omega (arith, standing_few ps)
-standing_few (None ∷ ps) = omega (arith, standing_few ps)
+-- what a fold over the places counts
+pub standing_folded : (ps : List Place) (n : ℕ) → n ≡ fold (one_more is_some) 0 ps → length ps ≤ 64 → (n ≡ standing ps) × (n ≤ 64)
+standing_folded ps n e few = counted standing is_some refl standing_step ps n 64 e few (omega arith)
 
 -- n places further on
 abbrev pub moved : ℕ → Option ℕ → Option ℕ

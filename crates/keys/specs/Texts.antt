@@ -1,5 +1,5 @@
 -- The text of a name: what is lawful, and how memory of eight bytes holds it.
-use Rattle.std.specs.Prelude.{◌≡◌, ℕ, ◌-◌, Bool, true, ◌&&◌, List, ◌++◌, length, replicate, nat_le}
+use Rattle.std.specs.Prelude.{ℕ, ◌-◌, Bool, ◌&&◌, List, ◌++◌, length, replicate, nat_le}
 use Rattle.std.specs.List.{list_all}
 
 -- 1 to 8
@@ -20,9 +20,3 @@ lawful_text text = lawful_length (length text) && lawful_bytes text
 -- the text and then zeros, up to eight bytes
 abbrev pub padded_text : List ℕ → List ℕ
 padded_text text = text ++ replicate (8 - length text) 0
-
--- eight bytes and a length hold a lawful text
-pub record HoldsText (bytes : List ℕ) (len : ℕ) (text : List ℕ) : Type 0 where
-  pub counted : len ≡ length text
-  pub padded : bytes ≡ padded_text text
-  pub lawful : lawful_text text ≡ true

@@ -1,8 +1,8 @@
 // Keys of two kinds behind one trait.
 //
 // `Key` is the interface: byte form, class, index number, what is lawful, reading and writing. `Number` (1 to 65,535) and
-// `Name` (1 to 8 bytes) keep it; a contract sees a number as its value, and a name as its text. `Printed` says how a key
-// prints; `Display` agrees with it. `read_keys` reads keys of any kind one after another.
+// `Name` (1 to 8 bytes) keep it; a contract sees a number as its value, and reads the text of a name by `name_text`. `Printed`
+// says how a key prints; `Display` agrees with it. `read_keys` reads keys of any kind one after another.
 //
 // Promised, for every input: what each call answers and what then stands in every buffer is given by the definitions
 // below; `==` compares byte forms, lawful keys are equal exactly when theirs are, no byte form begins another one, and

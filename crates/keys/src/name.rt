@@ -1,29 +1,18 @@
 // Keys that are names.
+ghost use Rattle.std.specs.Prelude.{◌≡◌, true, length, take};
+ghost use Rattle.keys.specs.Texts.{lawful_text, padded_text};
+
 pub mod calls;
 pub mod prints;
 
-use std::marker::Model;
-
-// The first `len` bytes are the text; the others are 0, so that equal texts are equal names. A contract sees the text.
+// The first `len` bytes are the text; the others are 0, so that equal texts are equal names. What the ghost fields say is known of every
+// name, also behind a reference; under a model only what it shows is.
 // No `ArrayString`: it leaves the bytes past the text open, and then equal texts would not be one name.
 #[derive(Clone, Copy, PartialEq, Eq)]
 pub struct Name {
     bytes: [u8; 8],
     len: u8,
-}
-
-impl Model for Name {
-    ghost use Rattle.std.specs.Prelude.{ℕ, List, length, take};
-    ghost use Rattle.std.proofs.Common.{sym};
-    ghost use Rattle.keys.specs.Texts.{padded_text, HoldsText};
-
-    ghost Value = { List ℕ };
-
-    ghost view = { λ n. take n.len n.bytes };
-
-    ghost invariant = { λ n. HoldsText n.bytes n.len (take n.len n.bytes) };
-
-    ghost inverse = { λ text. record { bytes = padded_text text; len = length text } };
-
-    ghost inverse_ok = { λ n h i. record { bytes = sym h.padded i; len = sym h.counted i } };
+    ghost counted: { len ≡ length (take len bytes) },
+    ghost padded: { bytes ≡ padded_text (take len bytes) },
+    ghost lawful: { lawful_text (take len bytes) ≡ true },
 }

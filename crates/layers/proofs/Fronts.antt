@@ -1,15 +1,16 @@
 -- The first places of a pile tell and change as the places of a pile with the lesser bound, and what stands on them can be
 -- counted place by place.
 use Rattle.std.specs.Prelude.{◌≡◌, ℕ, zero, suc, ◌+◌, ◌<◌, ◌≤◌, min, Bool, true, false, cond, map, List, [], ◌∷◌, length, take, Some, None, Option, ◌==◌, ◌≢◌, nat_lt, slice_set}
-use Rattle.std.specs.List.{slice_get, filter, sum_by, range_with_len}
+use Rattle.std.specs.List.{slice_get, filter, fold, sum_by, range_with_len}
 use Rattle.std.proofs.Common.{refl, sym, ◌∙◌, arith, add-one, length-set, length-append, length-take, take_all}
 use Rattle.std.proofs.Math.Seq.{take-set-lt, take-nil}
 use Rattle.std.proofs.lemmas.Bool.Decides.{nat_tests}
 use Rattle.std.proofs.lemmas.List.{take-set-le, take-append-le, get_or-take}
 use Rattle.std.proofs.lemmas.List.Folds.{fold-map}
-use Rattle.std.proofs.lemmas.List.FromFn.{sum_by-map-range_with_len_more}
+use Rattle.std.proofs.lemmas.List.FromFn.{length-range_with_len, sum_by-map-range_with_len_more}
 use Rattle.std.proofs.lemmas.List.Sums.{length-filter}
 use Rattle.std.proofs.lemmas.Option.{slice_get_past, slice_get-get_or}
+use Rattle.pile.proofs.Counts.{one_more, counted}
 use Rattle.pile.specs.declared.receipts.EntryReceipt.{EntryReceipt}
 use Rattle.pile.specs.declared.receipts.LeaveReceipt.{LeaveReceipt}
 use Rattle.pile.specs.declared.receipts.PlaceState.{PlaceState}
@@ -155,14 +156,6 @@ filter_step p x xs = by (p x)
     by true = omega arith
     by false = refl
 
-pub filter_few : {X : Type 0} (p : X → Bool) (xs : List X) → length (filter p xs) ≤ length xs
-filter_few p [] = omega arith
-filter_few p (x ∷ xs) = by (p x) (filter_few p xs)
-  where
-    by : (b : Bool) → length (filter p xs) ≤ length xs → length (cond b (x ∷ filter p xs) (filter p xs)) ≤ length (x ∷ xs)
-    by true few = omega (arith, few)
-    by false few = omega (arith, few)
-
 pub standing_counted : (ps : List Place) (s : ℕ) → length (filter (λ i. stands (slice_get ps i)) (range_with_len 0 s)) ≡ standing (take s ps)
 standing_counted ps s = length-filter (λ i. stands (slice_get ps i)) (range_with_len 0 s) ∙ sym (fold-map _ (slice_get ps) 0 (range_with_len 0 s)) ∙ by s
   where
@@ -171,3 +164,16 @@ standing_counted ps s = length-filter (λ i. stands (slice_get ps i)) (range_wit
     by (suc n) =
         let more = simp add-one at (sum_by-map-range_with_len_more (λ o. cond (stands o) 1 0) (slice_get ps) 0 n n (omega arith)) in
         grind (arith, by n, standing_suc ps n, more)
+
+-- whether place i holds a tag
+abbrev pub stands_at : List Place → ℕ → Bool
+stands_at ps i = stands (slice_get ps i)
+
+-- what a fold over the numbers of the first places counts
+pub standing_folded : (ps : List Place) (s n : ℕ) → n ≡ fold (one_more (stands_at ps)) 0 (range_with_len 0 s) → s ≤ 64 → (n ≡ standing (take s ps)) × (n ≤ 64)
+standing_folded ps s n e few =
+    let holds = stands_at ps in
+    let numbers = range_with_len 0 s in
+    let within : length numbers ≤ 64 = omega (arith, length-range_with_len 0 s, few) in
+    let all = counted (λ is. length (filter holds is)) holds refl (filter_step holds) numbers n 64 e within (omega arith) in
+    (all.0 ∙ standing_counted ps s, all.1)

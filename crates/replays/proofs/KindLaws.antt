@@ -4,9 +4,9 @@ use Rattle.std.proofs.lemmas.Fmt.{length-decimal-le, decimal_nonempty}
 use Rattle.std.proofs.lemmas.Bool.{and_parts, leb-true}
 use Rattle.std.proofs.lemmas.Grind.{common_steps}
 use Rattle.keys.specs.Answers.{Reading, read, refused}
-use Rattle.keys.specs.Names.{name_form, name_class, name_view, name_reading, name_printed}
-use Rattle.keys.specs.Numbers.{number_form, lawful_number, number_class, number_view, number_reading, number_printed}
-use Rattle.keys.specs.Texts.{lawful_text}
+use Rattle.keys.specs.Names.{name_form, lawful_name, name_class, name_view, name_reading, name_printed}
+use Rattle.keys.specs.Numbers.{number_form, lawful_number, number_view, number_reading, number_printed}
+use Rattle.keys.specs.NamesLemmas.{name_back}
 use Rattle.keys.specs.declared.name.Name.{Name}
 use Rattle.keys.specs.declared.number.Number.{Number}
 use Rattle.keys.proofs.NumbersLemmas.{number_class_below}
@@ -89,10 +89,7 @@ numbers_lawful =
     number_six
 
 -- names
-name_back : (n : Name) (rest : List ℕ) → lawful_text n ≡ true → name_reading (name_form n ++ rest) ≡ read n
-name_back n rest l = search (rules, common_steps)
-
-name_found : (n : Name) (bytes : List ℕ) → name_reading bytes ≡ read n → lawful_text n ≡ true
+name_found : (n : Name) (bytes : List ℕ) → name_reading bytes ≡ read n → lawful_name n ≡ true
 name_found n bytes e = search rules
 
 name_begins : (n : Name) (bytes : List ℕ) → name_reading bytes ≡ read n → bytes ≡ name_form n ++ drop (length (name_form n)) bytes
@@ -101,7 +98,7 @@ name_begins n bytes e = search (rules, common_steps)
 name_class_below : (n : Name) → name_class n < 8
 name_class_below n = search rules
 
-name_brief : (n : Name) → lawful_text n ≡ true → (1 ≤ length (name_printed n)) × (length (name_printed n) ≤ 8)
+name_brief : (n : Name) → lawful_name n ≡ true → (1 ≤ length (name_printed n)) × (length (name_printed n) ≤ 8)
 name_brief n l = search rules
 
 name_six : (bytes : List ℕ) (number : ℕ) → name_reading bytes ≡ refused (Some number) → number ≡ 6

@@ -1,9 +1,8 @@
 -- What the replay needs of a kind of key: what reading a key answers, and how a key prints.
 use Rattle.std.specs.Prelude.{◌≡◌, ℕ, ◌<◌, ◌≤◌, true, List, [], ◌++◌, length, drop, Some, None}
 use Rattle.keys.specs.Answers.{Reading, read, refused}
-use Rattle.keys.specs.Names.{name_form, name_view, name_reading, name_printed}
+use Rattle.keys.specs.Names.{name_form, lawful_name, name_view, name_reading, name_printed}
 use Rattle.keys.specs.Numbers.{number_form, lawful_number, number_view, number_reading, number_printed}
-use Rattle.keys.specs.Texts.{lawful_text}
 use Rattle.keys.specs.declared.name.Name.{Name}
 use Rattle.keys.specs.declared.number.Number.{Number}
 use Rattle.calls.specs.Book.{KeyView}
@@ -65,4 +64,4 @@ pub record LawfulKind (kind : Kind) : Type 0 where
 -- what prints is the key itself, for every lawful key
 pub record PrintsKeys : Type 0 where
   pub of_numbers : (n : Number) → lawful_number n ≡ true → numbers.prints (number_form n) ≡ number_printed n
-  pub of_names : (n : Name) → lawful_text n ≡ true → names.prints (name_form n) ≡ name_printed n
+  pub of_names : (n : Name) → lawful_name n ≡ true → names.prints (name_form n) ≡ name_printed n

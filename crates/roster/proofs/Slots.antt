@@ -1,7 +1,9 @@
 -- The slots that lent records stand for, and the searches over them, step by step.
-use Rattle.std.proofs.Common.{not, cond, ◌∷◌, ◌≡◌, ℕ, ◌+◌, ◌<◌, ◌≤◌, true, List, [], map, length, get_or, take, IfSome, Some, None, Option, zero-add, sym, refl, ap, ◌∙◌, subst, arith}
+use Rattle.std.proofs.Common.{Bool, not, cond, ◌∷◌, ◌≡◌, ℕ, ◌+◌, ◌<◌, ◌≤◌, true, List, map, length, get_or, take, IfSome, Some, None, Option, zero-add, sym, refl, ap, ◌∙◌, subst, arith}
 use Rattle.std.proofs.lemmas.List.{length-map, length-take-le, get_or-map}
 use Rattle.std.proofs.lemmas.Bool.{false≢true}
+use Rattle.std.specs.List.{fold}
+use Rattle.pile.proofs.Counts.{one_more, counted}
 use Rattle.calls.specs.Book.{KeyView, OpenEntry, live_count, is_free}
 use Rattle.roster.specs.Rosters.{slot_of, open_told, waiting}
 use Rattle.roster.specs.declared.record.Pending.{Pending}
@@ -26,11 +28,13 @@ live_step view Free rs = zero-add _
 live_step view (Waiting key) rs = zero-add _
 live_step view (Live key) rs = refl
 
-pub live_few : {K : Type 0} (view : K → KeyView) (rs : List (Record K)) → live_count (map (slot_of view) rs) ≤ length rs
-live_few view [] = omega arith
-live_few view (Free ∷ rs) = omega (arith, live_step view Free rs, live_few view rs)
-live_few view (Waiting key ∷ rs) = omega (arith, live_step view (Waiting key) rs, live_few view rs)
-live_few view (Live key ∷ rs) = omega (arith, live_step view (Live key) rs, live_few view rs)
+-- a record that is live
+abbrev pub is_live : {K : Type 0} → (view : K → KeyView) → Record K → Bool
+is_live view r = not (is_free (slot_of view r))
+
+-- what a fold over the records counts
+pub live_folded : {K : Type 0} (view : K → KeyView) (rs : List (Record K)) (n : ℕ) → n ≡ fold (one_more (is_live view)) 0 rs → length rs ≤ 1024 → (n ≡ live_count (map (slot_of view) rs)) × (n ≤ 1024)
+live_folded view rs n e few = counted (λ xs. live_count (map (slot_of view) xs)) (is_live view) refl (live_step view) rs n 1024 e few (omega arith)
 
 pub free_slot : (slot : Option KeyView) → is_free slot ≡ true → slot ≡ None
 free_slot None e = refl

@@ -52,22 +52,16 @@ fn parse(words: &[&str]) -> Result<Line, LineFault> {
 }
 
 impl List {
-    fn take(
-        &mut self,
-        rt: &impl Print,
-        number: usize,
-        line: Result<Line, LineFault>,
-    ) -> anyhow::Result<()> {
+    fn take(&mut self, rt: &impl Print, number: usize, line: Line) -> anyhow::Result<()> {
         match line {
-            Err(fault) => println!(rt; "line {number}: {fault}")?,
-            Ok(Line::Blank) => {}
-            Ok(Line::Bound(bound)) => {
+            Line::Blank => {}
+            Line::Bound(bound) => {
                 self.bound = bound;
                 if let Err(fault) = ask_bound(bound) {
                     println!(rt; "line {number}: refused {fault}")?;
                 }
             }
-            Ok(Line::Change(change)) => self.changes.push(change)?,
+            Line::Change(change) => self.changes.push(change)?,
         }
         Ok(())
     }
@@ -82,7 +76,10 @@ impl List {
             let text = text?;
             let number = before.saturating_add(1);
             let words: Vec<&str> = text.as_str().split_whitespace().collect(heap)?;
-            list.take(rt, number, parse(words.as_slice()))?;
+            match parse(words.as_slice()) {
+                Ok(line) => list.take(rt, number, line)?,
+                Err(fault) => println!(rt; "line {number}: {fault}")?,
+            }
         }
         Ok(list)
     }

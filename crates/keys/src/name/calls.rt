@@ -1,11 +1,9 @@
 // What a name does as a key.
 ghost use Rattle.std.specs.Prelude.{◌≡◌, ◌≤◌, true, ◌∷◌, length};
 ghost use Rattle.keys.specs.Answers.{read_told};
-ghost use Rattle.keys.specs.Bytes.{put_count, put_buffer};
-ghost use Rattle.keys.specs.Index.{index_of};
-ghost use Rattle.keys.specs.Names.{name_form, name_class, name_view, class_by, named, name_reading};
+ghost use Rattle.keys.specs.Names.{name_text, name_view, class_by, named, name_reading};
 ghost use Rattle.keys.specs.Texts.{lawful_length, lawful_byte, lawful_bytes, lawful_text, padded_text};
-ghost use Rattle.keys.specs.NamesLemmas.{text_bytes, text_from_padded};
+ghost use Rattle.keys.specs.NamesLemmas.{name_bytes, name_back, name_equal, text_from_padded};
 ghost use Rattle.std.proofs.Common.{rules};
 ghost use Rattle.std.proofs.lemmas.Grind.{common_steps};
 
@@ -77,15 +75,15 @@ impl Name {
 
     // The bytes of the name.
     pub fn text(&self) -> &[u8]
-        ensures text { result.now ≡ self.now }
-        ensures lawful { lawful_text self.now ≡ true }
+        ensures text { result.now ≡ name_text self.now }
+        ensures lawful { lawful_text (name_text self.now) ≡ true }
     {
         &self.bytes[..usize::from(self.len)]
     }
 
     // The byte form, and zeros after it; the library has no name for it.
     fn to_bytes(&self) -> [u8; 9]
-        ensures { result ≡ length self.now ∷ padded_text self.now }
+        ensures { result ≡ self.now.len ∷ self.now.bytes }
     {
         let mut form = [0; 9];
         form[0] = self.len;
@@ -94,7 +92,6 @@ impl Name {
     }
 }
 
-// A contract sees a name as its text, and a text need not be lawful; so each call says of its name that it is.
 impl Key for Name {
     ghost view = { name_view };
 
@@ -102,7 +99,7 @@ impl Key for Name {
 
     ghost same = { Prim.search (rules, common_steps, text_from_padded) };
 
-    ghost equal = { Prim.search rules };
+    ghost equal = { λ a b la lb e. name_equal a b e };
 
     ghost alike = { Prim.search rules };
 
@@ -110,43 +107,33 @@ impl Key for Name {
 
     ghost sizes = { Prim.search rules };
 
-    ghost bytes = { Prim.search (rules, text_bytes) };
+    ghost bytes = { λ n l. name_bytes n };
 
     ghost apart = { Prim.search (rules, common_steps) };
 
-    ghost back = { Prim.search (rules, common_steps) };
+    ghost back = { name_back };
 
     ghost found = { Prim.search rules };
 
     ghost begins = { Prim.search (rules, common_steps) };
 
-    // Only lawful names can be made, and the look at a field shows that to the proof.
+    // Only lawful names can be made, as the type says.
     fn is_lawful(&self) -> bool
-        ensures value { result ≡ lawful_text self.now }
+        ensures value { result ≡ lawful_text (name_text self.now) }
         ensures always { result ≡ true }
     {
-        let _ = &self.len;
         true
     }
 
-    fn class(&self) -> u8
-        ensures value { result ≡ name_class self.now }
-        ensures lawful { lawful_text self.now ≡ true }
-    {
+    fn class(&self) -> u8 {
         class_by(self.bytes[0])
     }
 
-    fn index(&self) -> u16
-        ensures value { result ≡ index_of (name_form self.now) }
-        ensures lawful { lawful_text self.now ≡ true }
-    {
+    fn index(&self) -> u16 {
         mix_all(mix(0, self.len), self.text())
     }
 
-    fn size(&self) -> usize
-        ensures value { result ≡ length (name_form self.now) }
-        ensures lawful { lawful_text self.now ≡ true }
-    {
+    fn size(&self) -> usize {
         1 + usize::from(self.len)
     }
 
@@ -164,11 +151,7 @@ impl Key for Name {
         Name::new(&rest[..len])
     }
 
-    fn write(&self, into: &mut [u8], at: usize) -> Option<usize>
-        ensures count { result ≡ put_count (name_form self.now) into.old at }
-        ensures after { into.new ≡ put_buffer (name_form self.now) into.old at }
-        ensures lawful { lawful_text self.now ≡ true }
-    {
+    fn write(&self, into: &mut [u8], at: usize) -> Option<usize> {
         let form = self.to_bytes();
         put(into, at, &form[..self.size()])
     }

